@@ -1,0 +1,26 @@
+//! What everything else is made of: numbers with a type of their own, names, lists, the draft of a
+//! network, the places that refusals name, and the numbering of nodes.
+//!
+//! It gives upward: an id, a name and a place mean one thing everywhere; a list is seen by contracts as
+//! the list that it holds. It knows no rule of the railway beyond which arms a box connects.
+#![tactic(auto)]
+
+pub mod draft;
+pub mod ids;
+pub mod kind;
+pub mod layout;
+pub mod memory;
+pub mod name;
+pub mod place;
+pub mod sequence;
+pub mod text;
+
+pub use draft::{Draft, DraftBox, DraftBoxes, DraftTrain, DraftTrains};
+pub use ids::{Arm, BoxId, NodeNo, SegId, TrainId, WordNo};
+pub use kind::{Kind, Side, arm_count, joins, side_of};
+pub use layout::Layout;
+pub use memory::NoMemory;
+pub use name::{Name, Names, name_ok};
+pub use place::Place;
+pub use sequence::Sequence;
+pub use text::{Args, Text};
