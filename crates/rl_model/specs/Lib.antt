@@ -1,0 +1,8 @@
+pub mod Network
+pub mod World
+pub mod Moves
+pub mod Safety
+pub mod Reports
+pub mod ReportText
+pub mod Drafts
+pub mod Refusals

@@ -1,0 +1,56 @@
+-- Right reports: what is counted, which fate fits, and that the moves are a safe run.
+use Rattle.std.specs.Prelude.{◌≡◌, ℕ, ◌+◌, ◌<◌, ◌≤◌, ◌==◌, Bool, true, false, ◌&&◌, List, length, count_by, slice_get, Some}
+use Rattle.rl_model.specs.declared.moves.Move.{Move}
+use Rattle.rl_model.specs.declared.moves.Move.TheVariants.{Leave, Refuse, Bar}
+use Rattle.rl_model.specs.declared.network.NetworkPlan.{NetworkPlan}
+use Rattle.rl_model.specs.declared.report.Fate.{Fate}
+use Rattle.rl_model.specs.declared.report.Fate.TheVariants.{Arrived, Spent, Underway}
+use Rattle.rl_model.specs.declared.report.Outcome.{Outcome}
+use Rattle.rl_model.specs.declared.report.Report.{Report}
+use Rattle.rl_model.specs.Network.{has_end, steps_of}
+use Rattle.rl_model.specs.World.{World}
+use Rattle.rl_model.specs.Safety.{IsSafeRun, world_after}
+
+-- the move is a Leave of train t
+abbrev pub is_leave : ℕ → Move → Bool
+is_leave t (Leave x s) = x.0 == t
+is_leave t _ = false
+
+-- the move is a Refuse or a Bar that train t met
+abbrev pub is_refusal : ℕ → Move → Bool
+is_refusal t (Refuse x s b u) = x.0 == t
+is_refusal t (Bar x b u) = x.0 == t
+is_refusal t _ = false
+
+-- how many steps train t made, and how many refusals it met
+abbrev pub made_in : List Move → ℕ → ℕ
+made_in moves t = count_by (is_leave t) moves
+
+abbrev pub refused_in : List Move → ℕ → ℕ
+refused_in moves t = count_by (is_refusal t) moves
+
+-- train t stands on one segment alone, holds it at both ends and nothing else, and has no lock
+pub record Rests (net : NetworkPlan) (w : World) (t : ℕ) : Type 0 where
+  pub off : (b from to : ℕ) → w.across t b from to ≡ false
+  pub segment : ℕ
+  pub stands : w.occupies t segment ≡ true
+  pub holds : (s b : ℕ) → w.holds t s b ≡ (s == segment && has_end net s b)
+  pub unlocked : (b from to : ℕ) → w.locked b t from to ≡ false
+
+-- the fate fits train t, which made so many steps, met so many refusals and stands so in the end
+abbrev pub FateFits : NetworkPlan → ℕ → World → ℕ → ℕ → ℕ → Fate → Type 0
+FateFits net tries w t made refused Arrived = (made ≡ steps_of net t) × Rests net w t
+FateFits net tries w t made refused Spent = (made < steps_of net t) × (made + refused ≡ tries) × Rests net w t
+FateFits net tries w t made refused Underway = made + refused ≤ tries
+
+-- the outcome of train t has the counted numbers and a fate that fits
+pub record IsRightOutcome (net : NetworkPlan) (tries : ℕ) (moves : List Move) (t : ℕ) (o : Outcome) : Type 0 where
+  pub made : o.made ≡ made_in moves t
+  pub refused : o.refused ≡ refused_in moves t
+  pub fate : FateFits net tries (world_after net moves) t o.made o.refused o.fate
+
+-- the moves are a safe run, and each train has its right outcome
+pub record IsRightReport (net : NetworkPlan) (report : Report) : Type 0 where
+  pub run : IsSafeRun net report.moves
+  pub trains : length report.outcomes ≡ length net.trains
+  pub outcomes : (t : ℕ) (o : Outcome) → slice_get report.outcomes t ≡ Some o → IsRightOutcome net report.tries report.moves t o
