@@ -172,7 +172,7 @@ kept_start net network =
     }
 
 -- guarded moves from a world that has the kept facts leave such worlds alone
-safe_from : (net : NetworkPlan) (w : World) (moves : List Move) → IsKept net w → GuardedFrom net w moves → AllByRecursion (IsSafe net) (worlds_from w moves)
+pub safe_from : (net : NetworkPlan) (w : World) (moves : List Move) → IsKept net w → GuardedFrom net w moves → AllByRecursion (IsSafe net) (worlds_from w moves)
 safe_from net w [] kept guarded = (safe_kept net w kept, tt)
 safe_from net w (m ∷ ms) kept guarded =
     (safe_kept net w kept, safe_from net (after w m) ms (kept_after net w m kept guarded.0) guarded.1)
