@@ -1,0 +1,9 @@
+//! Driving by direct moves: trains make their moves on one world, round by round, with no box between.
+//!
+//! It gives upward the report of a number of rounds, which is right. It serves until the distributed core
+//! drives in its place, and goes then. It knows nothing of texts and files.
+#![tactic(auto)]
+
+pub mod mind;
+
+pub use mind::{Job, TrainMind, TrainMinds};
