@@ -5,6 +5,12 @@
 //! is printed and read one to one. It knows no word of any format.
 #![tactic(auto)]
 
+pub mod number;
 pub mod out;
+pub mod tokens;
+pub mod words;
 
+pub use number::read_number;
 pub use out::Out;
+pub use tokens::{TextLine, Tokens};
+pub use words::word_at;
