@@ -1,11 +1,11 @@
 -- The first of the lines of a text, and what follows it.
-use Rattle.std.proofs.Common.{◌≡◌, ◌==◌, ℕ, suc, ◌+◌, ◌<◌, ◌≤◌, Bool, true, false, ltb, List, [], ◌∷◌, length, take, drop, refl, ap, inl, inr, ◌∙◌, arith}
-use Rattle.std.specs.List.{position_or_len, slice_split, before_first, after_first}
+use Rattle.std.proofs.Common.{◌≡◌, ◌==◌, ℕ, suc, ◌+◌, ◌<◌, ◌≤◌, Bool, true, false, ltb, List, [], ◌∷◌, length, take, drop, ◌++◌, append_assoc, append-nil, refl, ap, inl, inr, ◌∙◌, arith}
+use Rattle.std.specs.List.{position_or_len, flat_map, join_with_byte, slice_split, before_first, after_first}
 use Rattle.std.proofs.lemmas.Bool.Decides.{nat_tests, leb_tells}
 use Rattle.std.proofs.lemmas.Grind.{common_steps}
-use Rattle.std.proofs.lemmas.List.Splits.{slice_split_first, slice_split_none, length-slice_split}
+use Rattle.std.proofs.lemmas.List.Splits.{slice_split_first, slice_split_none, length-slice_split, join_with_byte-slice_split}
 use Rattle.std.proofs.lemmas.List.Sums.{fails_before_first}
-use Rattle.rl_text.specs.Lines.{lines_of_parts, lines_of}
+use Rattle.rl_text.specs.Lines.{bytes_of, lines_of_parts, lines_of}
 
 -- a byte is an LF
 abbrev is_lf : ℕ → Bool
@@ -40,3 +40,18 @@ lines_of-first text end some e =
           let none : drop (end + 1) text ≡ [] = grind (arith, common_steps) in
           rw (cut, all, none) (lines_of_cut text some (omega arith))
     ]
+
+-- the last part is a line only where it has bytes
+flat_map-last : (last : List ℕ) → flat_map bytes_of (lines_of_parts (last ∷ [])) ≡ last
+flat_map-last [] = refl
+flat_map-last (b ∷ bs) = ap (flat_map bytes_of) (lines_of_parts-last (b ∷ bs) (omega arith)) ∙ append-nil (b ∷ bs)
+
+-- the lines, put together, are the parts with an LF between each two
+flat_map-lines_of_parts : (parts : List (List ℕ)) → flat_map bytes_of (lines_of_parts parts) ≡ join_with_byte 10 parts
+flat_map-lines_of_parts [] = refl
+flat_map-lines_of_parts (last ∷ []) = flat_map-last last
+flat_map-lines_of_parts (part ∷ next ∷ parts) = rw append_assoc (ap (λ rest. part ++ (10 ∷ rest)) (flat_map-lines_of_parts (next ∷ parts)))
+
+-- the lines of a text, put together, are the text
+pub flat_map-lines_of : (text : List ℕ) → flat_map bytes_of (lines_of text) ≡ text
+flat_map-lines_of text = flat_map-lines_of_parts (slice_split is_lf text) ∙ join_with_byte-slice_split 10 text

@@ -1,11 +1,12 @@
 -- The digits that `decimal` writes, and what they are worth.
-use Rattle.std.proofs.Common.{◌≡◌, ◌==◌, ℕ, zero, suc, lit<, ◌<◌, ◌^◌, ◌&&◌, nat_lt, true, false, List, length, slice_index, decimal, Option, Some, None, IfSome, Result, Ok, Err, refl, sym, ap, arith, rules}
+use Rattle.std.proofs.Common.{Bool, not, if◌then◌else◌, ◌≡◌, ℕ, zero, suc, lit<, ◌<◌, ◌^◌, ◌&&◌, nat_lt, true, false, List, length, slice_index, decimal, Option, Some, None, IfSome, Result, Ok, Err, ◌⊎◌, inl, inr, refl, sym, ap, arith, rules}
 use Rattle.std.specs.Char.{is_ascii_digit}
 use Rattle.std.specs.List.{list_all}
 use Rattle.std.specs.Option.{SomeIff}
 use Rattle.std.specs.Result.{OkIff, result_ok}
 use Rattle.std.specs.Str.{IsUtf8}
 use Rattle.std.specs.Str.Parse.{digits_value}
+use Rattle.rl_text.specs.Number.{has_leading_zero, number_of}
 use Rattle.std.proofs.lemmas.Bool.Decides.{nat_tests}
 use Rattle.std.proofs.lemmas.Fmt.{IsAscii-from_digits, decimal-digits_value, digits_decimal, digits_value-decimal, decimal_nonempty, first_decimal, decimal_digit}
 use Rattle.std.proofs.lemmas.Str.{IsUtf8-from_ascii}
@@ -20,22 +21,22 @@ pub IsUtf8-from_digits : (t : List ℕ) → list_all is_ascii_digit t ≡ true �
 IsUtf8-from_digits t h = IsUtf8-from_ascii t (IsAscii-from_digits t (digits_model.to t h))
 
 -- digits with no zero in front are what `decimal` writes of their number
-pub digits-decimal : (t : List ℕ) → list_all is_ascii_digit t ≡ true → nat_lt 1 (length t) && slice_index t 0 == 48 ≡ false → 0 < length t → digits_value 10 t < 2 ^ 64 → t ≡ decimal (digits_value 10 t)
+pub digits-decimal : (t : List ℕ) → list_all is_ascii_digit t ≡ true → has_leading_zero t ≡ false → 0 < length t → digits_value 10 t < 2 ^ 64 → t ≡ decimal (digits_value 10 t)
 digits-decimal t h plain some fits = sym (decimal-digits_value digits_model t h some (λ z. grind (arith, nat_tests)) fits)
 
 -- a text whose first byte isn't 0 has no zero in front
-plain-from_first : (t : List ℕ) → 48 < slice_index t 0 → nat_lt 1 (length t) && slice_index t 0 == 48 ≡ false
+plain-from_first : (t : List ℕ) → 48 < slice_index t 0 → has_leading_zero t ≡ false
 plain-from_first t h = grind (arith, nat_tests)
 
 -- what `decimal` writes has no zero in front of another digit
-plain-decimal : (n : ℕ) → n < 2 ^ 64 → nat_lt 1 (length (decimal n)) && slice_index (decimal n) 0 == 48 ≡ false
+plain-decimal : (n : ℕ) → n < 2 ^ 64 → has_leading_zero (decimal n) ≡ false
 plain-decimal zero h = rw (decimal_digit 0 (lit< tt)) refl
 plain-decimal (suc n) h = plain-from_first (decimal (suc n)) (first_decimal (suc n) (omega arith) h)
 
 -- t is what `decimal` writes of n: digits that are worth n, with no zero in front
 pub record IsDecimalText (t : List ℕ) (n : ℕ) : Type 0 where
   pub digits : list_all is_ascii_digit t ≡ true
-  pub plain : nat_lt 1 (length t) && slice_index t 0 == 48 ≡ false
+  pub plain : has_leading_zero t ≡ false
   pub some : 0 < length t
   pub value : digits_value 10 t ≡ n
 
@@ -61,3 +62,28 @@ Some-from_iff (Some x) P v h p = ap Some h.1
 pub SomeIff-result_ok : {E : Type 0} (r : Result ℕ E) (P : Type 0) (v : ℕ) → OkIff r P v → SomeIff (result_ok r) P v
 SomeIff-result_ok (Ok x) P v h = h
 SomeIff-result_ok (Err e) P v h = h
+
+-- a failed test of digits, or a zero in front, leaves no number
+none_by_tests : (some digits leads fits : Bool) (v : ℕ) → (digits ≡ false) ⊎ (leads ≡ true) → None ≡ (if some && digits && not leads && fits then Some v else None)
+none_by_tests false digits leads fits v h = refl
+none_by_tests true false leads fits v h = refl
+none_by_tests true true true fits v h = refl
+none_by_tests true true false fits v h = elim h [ inl e ↦ cc | inr e ↦ cc ]
+
+-- a text with another byte, or with a zero in front, writes no number
+pub number_of-other : (t : List ℕ) → (list_all is_ascii_digit t ≡ false) ⊎ (has_leading_zero t ≡ true) → None ≡ number_of t
+unfolding number_of
+number_of-other t h = none_by_tests _ _ _ _ _ h
+
+-- no bytes, or too large a number
+none_by_bounds : (len v : ℕ) → ¬ ((0 < len) × (v < 2 ^ 64)) → None ≡ (if nat_lt 0 len && true && not false && nat_lt v (2 ^ 64) then Some v else None)
+none_by_bounds len v h = grind (arith, nat_tests)
+
+some_by_bounds : (len v : ℕ) → 0 < len → v < 2 ^ 64 → Some v ≡ (if nat_lt 0 len && true && not false && nat_lt v (2 ^ 64) then Some v else None)
+some_by_bounds len v some fits = grind (arith, nat_tests)
+
+-- digits with no zero in front write their number, where there are any and it fits
+pub number_of-digits : (t : List ℕ) (o : Option ℕ) → list_all is_ascii_digit t ≡ true → has_leading_zero t ≡ false → SomeIff o ((0 < length t) × (digits_value 10 t < 2 ^ 64)) (digits_value 10 t) → o ≡ number_of t
+unfolding number_of
+number_of-digits t None h plain s = rw (h, plain) (none_by_bounds (length t) (digits_value 10 t) s)
+number_of-digits t (Some x) h plain s = rw (h, plain, s.1) (some_by_bounds (length t) (digits_value 10 t) s.0.0 s.0.1)

@@ -1,4 +1,4 @@
-use Rattle.std.specs.Prelude.{ℕ, ◌==◌, Bool, true, false, List, [], ◌∷◌, length, if◌then◌else◌}
+use Rattle.std.specs.Prelude.{ℕ, ◌==◌, Bool, true, false, List, [], ◌∷◌, ◌++◌, length, if◌then◌else◌}
 use Rattle.std.specs.List.{slice_split}
 
 -- how many bytes a text may have
@@ -19,6 +19,10 @@ lines_of_parts (part ∷ next ∷ parts) = record { text = part; whole = true } 
 -- the lines of a text, in order
 abbrev pub lines_of : List ℕ → List Line
 lines_of text = lines_of_parts (slice_split (λ b. b == 10) text)
+
+-- the bytes of a line in its text
+abbrev pub bytes_of : Line → List ℕ
+bytes_of line = if line.whole then line.text ++ 10 ∷ [] else line.text
 
 -- how many lines were given, and those that are left
 pub record Reading : Type 0 where

@@ -14,3 +14,6 @@ pub use number::read_number;
 pub use out::Out;
 pub use tokens::{TextLine, Tokens};
 pub use words::word_at;
+
+#[cfg(test)]
+mod tests;

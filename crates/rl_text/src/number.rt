@@ -1,8 +1,9 @@
-ghost use Rattle.std.specs.Prelude.{◌≡◌, ◌<◌, ◌^◌, ◌==◌, ◌&&◌, ℕ, length, nat_lt, IsTrue, IfSome, decimal, slice_index};
+ghost use Rattle.std.specs.Prelude.{◌≡◌, ◌<◌, ◌^◌, ℕ, length, IsTrue, IfSome, decimal};
 ghost use Rattle.std.specs.Char.{is_ascii_digit};
 ghost use Rattle.std.specs.List.{list_all};
 ghost use Rattle.std.specs.Option.{SomeIff};
 ghost use Rattle.std.specs.Str.Parse.{digits_value};
+ghost use Rattle.rl_text.specs.Number.{has_leading_zero, number_of};
 
 fn are_digits(t: &[u8]) -> bool
     ensures { result ≡ list_all is_ascii_digit t.now }
@@ -12,7 +13,7 @@ fn are_digits(t: &[u8]) -> bool
 
 /// Whether a 0 stands before another byte.
 fn has_leading_zero(t: &[u8]) -> bool
-    ensures { result ≡ (nat_lt 1 (length t.now) && slice_index t.now 0 == 48) }
+    ensures { result ≡ has_leading_zero t.now }
 {
     t.len() > 1 && t[0] == b'0'
 }
@@ -31,6 +32,7 @@ fn number_of_digits(t: &[u8]) -> Option<u64>
 /// The number that the text writes in decimal, without sign and without leading zeros. `None` for any
 /// other text, and for a number above the greatest u64.
 pub fn read_number(t: &[u8]) -> Option<u64>
+    ensures value { result ≡ number_of t.now }
     ensures printed { IfSome result (λ n. t.now ≡ decimal n) }
     ensures complete { (n : ℕ) → n < 2 ^ 64 → t.now ≡ decimal n → result ≡ Some n }
 {

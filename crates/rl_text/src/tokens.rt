@@ -1,6 +1,6 @@
 ghost use Rattle.std.specs.Prelude.{◌≡◌, ◌+◌, ◌≤◌, ◌↔◌, [], ◌∷◌, length, drop, IsNone, IfSome, IfNone, ◌==◌};
-ghost use Rattle.std.specs.List.{position_or_len};
-ghost use Rattle.rl_text.specs.Lines.{lines_of, longest_text};
+ghost use Rattle.std.specs.List.{flat_map, position_or_len};
+ghost use Rattle.rl_text.specs.Lines.{bytes_of, lines_of, longest_text};
 
 use std::marker::Model;
 
@@ -57,6 +57,7 @@ impl<'a> Tokens<'a> {
         requires { length text.now ≤ longest_text }
         ensures given { result.given ≡ 0 }
         ensures left { result.left ≡ lines_of text.now }
+        ensures joined { flat_map bytes_of result.left ≡ text.now }
     {
         Tokens {
             given: 0,
