@@ -1,7 +1,9 @@
 -- The ten moves: their guards, numbered in the order in which they are tested, and their changes.
-use Rattle.std.specs.Prelude.{◌≡◌, ℕ, ◌+◌, ◌<◌, ◌≢◌, ◌==◌, Bool, true, false, not, ◌&&◌, ◌||◌, ◌⊎◌, if◌then◌else◌, IsTrue}
+use Rattle.std.specs.Prelude.{◌≡◌, ℕ, ◌+◌, ◌<◌, ◌≢◌, ◌==◌, Bool, true, false, not, ◌&&◌, ◌||◌, ◌⊎◌, if◌then◌else◌, IsTrue, slice_get, length}
 use Rattle.std.specs.Option.{option_map_or}
-use Rattle.std.specs.Prelude.{slice_get}
+use Rattle.rl_base.specs.declared.ids.SegId.{SegId}
+use Rattle.rl_base.specs.declared.ids.BoxId.{BoxId}
+use Rattle.rl_base.specs.declared.ids.TrainId.{TrainId}
 use Rattle.rl_base.specs.declared.kind.Side.{Side}
 use Rattle.rl_model.specs.declared.moves.Move.{Move}
 use Rattle.rl_model.specs.declared.moves.Move.TheVariants.{Reserve, Release, Lock, Unlock, Throw, Settle, Enter, Leave, Refuse, Bar}
@@ -159,3 +161,25 @@ after w (Enter t b s s2) = enter w t.0 b.0 s.0 s2.0
 after w (Leave t s) = leave w t.0 s.0
 after w (Refuse t s b u) = w
 after w (Bar t b u) = w
+
+-- the trains, segments and boxes that a move names are the network's
+abbrev pub HasTrain : NetworkPlan → TrainId → Type 0
+HasTrain net t = t.0 < length net.trains
+
+abbrev pub HasSegment : NetworkPlan → SegId → Type 0
+HasSegment net s = s.0 < length net.segments
+
+abbrev pub HasBox : NetworkPlan → BoxId → Type 0
+HasBox net b = b.0 < length net.boxes
+
+abbrev pub IsMoveOf : NetworkPlan → Move → Type 0
+IsMoveOf net (Reserve t s b) = HasTrain net t × HasSegment net s × HasBox net b
+IsMoveOf net (Release t s b) = HasTrain net t × HasSegment net s × HasBox net b
+IsMoveOf net (Lock t b s s2) = HasTrain net t × HasBox net b × HasSegment net s × HasSegment net s2
+IsMoveOf net (Unlock t b) = HasTrain net t × HasBox net b
+IsMoveOf net (Throw b) = HasBox net b
+IsMoveOf net (Settle b side) = HasBox net b
+IsMoveOf net (Enter t b s s2) = HasTrain net t × HasBox net b × HasSegment net s × HasSegment net s2
+IsMoveOf net (Leave t s) = HasTrain net t × HasSegment net s
+IsMoveOf net (Refuse t s b u) = HasTrain net t × HasSegment net s × HasBox net b × HasTrain net u
+IsMoveOf net (Bar t b u) = HasTrain net t × HasBox net b × HasTrain net u

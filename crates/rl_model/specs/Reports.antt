@@ -9,6 +9,7 @@ use Rattle.rl_model.specs.declared.report.Outcome.{Outcome}
 use Rattle.rl_model.specs.declared.report.Report.{Report}
 use Rattle.rl_model.specs.Network.{has_end, steps_of}
 use Rattle.rl_model.specs.World.{World}
+use Rattle.rl_model.specs.Moves.{IsMoveOf}
 use Rattle.rl_model.specs.Safety.{IsSafeRun, world_after}
 
 -- the move is a Leave of train t
@@ -54,3 +55,12 @@ pub record IsRightReport (net : NetworkPlan) (report : Report) : Type 0 where
   pub run : IsSafeRun net report.moves
   pub trains : length report.outcomes ≡ length net.trains
   pub outcomes : (t : ℕ) (o : Outcome) → slice_get report.outcomes t ≡ Some o → IsRightOutcome net report.tries report.moves t o
+
+-- what a report of the network has in range: tries from 1 to 1000, moves of the network, and an outcome for
+-- each train with numbers of at most 1,000,000
+pub record IsReportOf (net : NetworkPlan) (report : Report) : Type 0 where
+  pub some_tries : 1 ≤ report.tries
+  pub few_tries : report.tries ≤ 1000
+  pub moves : (k : ℕ) (m : Move) → slice_get report.moves k ≡ Some m → IsMoveOf net m
+  pub trains : length report.outcomes ≡ length net.trains
+  pub outcomes : (t : ℕ) (o : Outcome) → slice_get report.outcomes t ≡ Some o → (o.made ≤ 1000000) × (o.refused ≤ 1000000)
