@@ -1,0 +1,9 @@
+use Rattle.std.specs.Prelude.{ℕ, ◌+◌, ◌-◌, ◌^◌, ◌<◌, ◌≤◌, min}
+
+-- a name's count of faults rose
+abbrev pub Rose : ℕ → ℕ → Type 0
+Rose before now = before < now
+
+-- a sink's count of faults rose, or stands at the greatest u64, where it stays
+abbrev pub RoseOrFull : ℕ → ℕ → Type 0
+RoseOrFull before now = min (before + 1) (2 ^ 64 - 1) ≤ now
