@@ -1,2 +1,4 @@
 pub mod Causes
+pub mod MemSink
+pub mod Numbering
 pub mod Sink

@@ -7,8 +7,10 @@
 
 pub mod files;
 pub mod gate;
+pub mod mem_sink;
 pub mod sink;
 
 pub use files::{Fetch, Files};
 pub use gate::{Gate, OpenGate};
+pub use mem_sink::MemSink;
 pub use sink::{Sink, SinkFault, put_all};
