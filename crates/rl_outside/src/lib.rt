@@ -5,15 +5,19 @@
 //! edge of the system. It knows nothing of the railway but the numbers of nodes and words.
 #![tactic(auto)]
 
+pub mod dir_files;
 mod failed;
 pub mod files;
 pub mod gate;
 pub mod mem_files;
 pub mod mem_sink;
 pub mod sink;
+pub mod std_sink;
 
+pub use dir_files::DirFiles;
 pub use files::{Fetch, Files};
 pub use gate::{Gate, OpenGate};
 pub use mem_files::MemFiles;
 pub use mem_sink::MemSink;
 pub use sink::{Sink, SinkFault, put_all};
+pub use std_sink::StdSink;

@@ -1,0 +1,99 @@
+ghost use Rattle.std.specs.Prelude.{◌≡◌, ℕ, ◌≤◌, ◌<◌, ◌+◌, List, ◌++◌, None, length, vec_len, true, false, IfOk, OnOk, IfSome, IsErrOf};
+ghost use Rattle.std.specs.Io.KnownBytes.{Consumes, IsAtEnd};
+ghost use Rattle.rl_outside.specs.Causes.{times_in};
+
+use crate::failed::{FailedNames, note};
+use crate::files::{Fetch, Files};
+use std::alloc::Global;
+use std::fs;
+use std::io::Read;
+
+/// How many bytes one read asks for at most.
+const PIECE: usize = 4096;
+
+/// The files of the folder in which the program stands. It tells no bytes.
+pub struct DirFiles<'a, R> {
+    rt: &'a R,
+    alloc: Global,
+    failed: FailedNames,
+}
+
+impl<R> Drop for DirFiles<'_, R> {
+    fn drop(self) {
+        let DirFiles {
+            rt: _,
+            alloc: _,
+            failed: _,
+        } = self;
+    }
+}
+
+impl<'a, R: std::rt::Files> DirFiles<'a, R> {
+    /// No fetch has failed yet.
+    pub fn new(rt: &'a R, alloc: Global) -> DirFiles<'a, R> {
+        DirFiles {
+            rt,
+            alloc,
+            failed: FailedNames::new(alloc),
+        }
+    }
+}
+
+/// Reads once, at most one byte past the limit, and appends what came. Answers whether anything did.
+fn read_piece<F: Read>(file: &mut F, bytes: &mut Vec<u8>, limit: usize) -> Result<bool, Fetch>
+    requires { vec_len bytes.old ≤ limit }
+    ensures within { OnOk result (vec_len bytes.new ≤ limit) }
+    ensures read { OnOk result ((piece : List ℕ) × (bytes.new.items ≡ bytes.old.items ++ piece) × Consumes (F.remaining file.old) (F.remaining file.new) piece) }
+    ensures more { result ≡ Ok true → vec_len bytes.old < vec_len bytes.new }
+    ensures end { result ≡ Ok false → IsAtEnd (F.remaining file.new) }
+    ensures too_long { IsErrOf result Fetch.TooLong → ((piece : List ℕ) × (limit < vec_len bytes.old + length piece) × Consumes (F.remaining file.old) (F.remaining file.new) piece) }
+{
+    let room = limit - bytes.len();
+    let wanted = room.saturating_add(1).min(PIECE);
+    let mut buffer = [0u8; PIECE];
+    let Ok(n) = file.read(&mut buffer[..wanted]) else {
+        return Err(Fetch::Failed);
+    };
+    if n > room {
+        return Err(Fetch::TooLong);
+    }
+    bytes.extend_from_slice(&buffer[..n])?;
+    Ok(n > 0)
+}
+
+/// Reads a file to its end, where that comes within the limit.
+fn read_whole<F: Read>(file: &mut F, alloc: Global, limit: usize) -> Result<Vec<u8>, Fetch>
+    ensures within { IfOk result (λ bytes. length bytes.items ≤ limit) }
+    ensures whole { IfOk result (λ bytes. IfSome (F.remaining file.old) (λ there. bytes.items ≡ there)) }
+    ensures too_long { IsErrOf result Fetch.TooLong → IfSome (F.remaining file.old) (λ there. limit < length there) }
+{
+    let mut bytes = Vec::new(alloc);
+    loop {
+        if !read_piece(file, &mut bytes, limit)? {
+            return Ok(bytes);
+        }
+    }
+}
+
+fn read_file<R: std::rt::Files>(rt: &R, alloc: Global, name: &str, limit: usize) -> Result<Vec<u8>, Fetch>
+    ensures within { IfOk result (λ bytes. length bytes.items ≤ limit) }
+{
+    match fs::open(rt, name) {
+        Ok(mut file) => read_whole(&mut file, alloc, limit),
+        Err(_) => Err(Fetch::Failed),
+    }
+}
+
+impl<R: std::rt::Files> Files for DirFiles<'_, R> {
+    ghost held = { λ _ _. None };
+    ghost faults = { λ d. times_in d.failed };
+
+    /// Reads the file of this name to its end.
+    fn fetch(&mut self, alloc: Global, name: &str, limit: usize) -> Result<Vec<u8>, Fetch> {
+        let answer = read_file(self.rt, alloc, name, limit);
+        if let Err(Fetch::Failed) = answer {
+            note(self.alloc, &mut self.failed, name)?;
+        }
+        answer
+    }
+}
