@@ -1,4 +1,4 @@
-use Rattle.std.proofs.Common.{◌≡◌, ◌≢◌, ℕ, ◌+◌, ◌<◌, ◌≤◌, Bool, true, false, cond, List, [], ◌∷◌, ◌++◌, length, get_or, set, Option, Some, None, zero, suc, refl, sym, ap, arith, ◌∙◌}
+use Rattle.std.proofs.Common.{◌≡◌, ◌≢◌, ℕ, ◌+◌, ◌<◌, ◌≤◌, Bool, true, false, cond, List, [], ◌∷◌, ◌++◌, length, get_or, set, Option, Some, None, zero, suc, Result, Ok, Err, refl, sym, ap, arith, ◌∙◌}
 use Rattle.std.specs.List.{find, position, position_or_len, count_by, sum_by}
 use Rattle.std.specs.Option.{option_or}
 use Rattle.std.specs.Str.{bytes_eq}
@@ -8,7 +8,9 @@ use Rattle.std.proofs.lemmas.List.Sums.{sum_by-append}
 use Rattle.std.proofs.lemmas.List.Folds.{find-set, find-append, find_at}
 use Rattle.std.proofs.lemmas.Bool.Decides.{nat_tests}
 use Rattle.std.proofs.lemmas.Option.{slice_get_past}
-use Rattle.rl_outside.specs.Causes.{times_in}
+use Rattle.rl_outside.specs.Causes.{times_in, failed_after}
+use Rattle.rl_outside.specs.declared.files.Fetch.{Fetch}
+use Rattle.rl_outside.specs.declared.files.Fetch.TheVariants.{Failed, TooLong, NoMemory}
 
 -- a name passes the test for itself
 pub bytes_eq-same : (name : List ℕ) → bytes_eq name name ≡ true
@@ -30,6 +32,15 @@ pub times_in-note_other : (names : List (List ℕ)) (name n : List ℕ) → n �
 times_in-note_other names name n other =
     let differs = bytes_eq-other n name other in
     grind (arith, sum_by-append {X = List ℕ} (λ m. cond (bytes_eq m n) 1 0) names (name ∷ []))
+
+-- no answer lowers a count
+pub times_in-failed_after : {T : Type 0} (result : Result T Fetch) (names : List (List ℕ)) (name n : List ℕ) →
+    times_in names n ≤ times_in (failed_after result names name) n
+times_in-failed_after (Ok bytes) names name n = omega arith
+times_in-failed_after (Err Failed) names name n =
+    omega (arith, sum_by-append {X = List ℕ} (λ m. cond (bytes_eq m n) 1 0) names (name ∷ []))
+times_in-failed_after (Err TooLong) names name n = omega arith
+times_in-failed_after (Err NoMemory) names name n = omega arith
 
 -- a write at a place that failed the test, of a value that fails it too, leaves what is found
 pub find-set_other : {X : Type 0} (q : X → Bool) (xs : List X) (i : ℕ) (y d : X) →

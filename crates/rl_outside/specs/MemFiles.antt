@@ -1,8 +1,8 @@
-use Rattle.std.specs.Prelude.{ℕ, nat_le, List, [], ◌∷◌, ◌++◌, length, find, Option, Some, None, option_map, Result, Ok, Err, if◌then◌else◌}
+use Rattle.std.specs.Prelude.{ℕ, nat_le, List, length, find, Option, Some, None, option_map, Result, Ok, Err, if◌then◌else◌}
 use Rattle.std.specs.Str.{bytes_eq}
 use Rattle.rl_outside.specs.Numbering.{fails_at}
 use Rattle.rl_outside.specs.declared.files.Fetch.{Fetch}
-use Rattle.rl_outside.specs.declared.files.Fetch.TheVariants.{Failed, TooLong, NoMemory}
+use Rattle.rl_outside.specs.declared.files.Fetch.TheVariants.{Failed, TooLong}
 use Rattle.rl_outside.specs.declared.mem_files.StoredFile.{StoredFile}
 
 -- files in memory: the files in the order in which their names came, the numbers of the fetches that
@@ -26,10 +26,3 @@ read_within limit (Some bytes) = if nat_le (length bytes) limit then Ok bytes el
 abbrev pub answer_of : MemFilesState → List ℕ → ℕ → Result (List ℕ) Fetch
 answer_of files name limit =
     if fails_at files.fails files.next then Err Failed else read_within limit (bytes_under files.files name)
-
--- the names whose fetch failed, after a fetch of this name ended so
-abbrev pub failed_after : {T : Type 0} → Result T Fetch → List (List ℕ) → List ℕ → List (List ℕ)
-failed_after (Ok bytes) names name = names
-failed_after (Err Failed) names name = names ++ name ∷ []
-failed_after (Err TooLong) names name = names
-failed_after (Err NoMemory) names name = names

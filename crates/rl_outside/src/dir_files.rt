@@ -1,21 +1,31 @@
-ghost use Rattle.std.specs.Prelude.{◌≡◌, ℕ, ◌≤◌, ◌<◌, ◌+◌, List, ◌++◌, None, length, vec_len, true, false, IfOk, OnOk, IfSome, IsErrOf};
+ghost use Rattle.std.specs.Prelude.{◌≡◌, ℕ, ◌≤◌, ◌<◌, ◌+◌, List, [], ◌++◌, ◌≢◌, None, length, vec_len, true, false, IfOk, OnOk, IfSome, IsErrOf};
 ghost use Rattle.std.specs.Io.KnownBytes.{Consumes, IsAtEnd};
-ghost use Rattle.rl_outside.specs.Causes.{times_in};
+ghost use Rattle.rl_outside.specs.Causes.{Rose, times_in, failed_after};
 
 use crate::failed::{FailedNames, note};
 use crate::files::{Fetch, Files};
 use std::alloc::Global;
 use std::fs;
 use std::io::Read;
+use std::marker::Model;
 
 /// How many bytes one read asks for at most.
 const PIECE: usize = 4096;
 
-/// The files of the folder in which the program stands. It tells no bytes.
+/// The files of the folder in which the program stands. It tells no bytes. Contracts see it as the names
+/// of the fetches that failed, oldest first.
 pub struct DirFiles<'a, R> {
     rt: &'a R,
     alloc: Global,
     failed: FailedNames,
+}
+
+impl<'a, R> Model for DirFiles<'a, R> {
+    ghost use Rattle.std.specs.Prelude.{ℕ, List};
+
+    ghost Value = { List (List ℕ) };
+
+    ghost view = { λ d. d.failed };
 }
 
 impl<R> Drop for DirFiles<'_, R> {
@@ -30,7 +40,9 @@ impl<R> Drop for DirFiles<'_, R> {
 
 impl<'a, R: std::rt::Files> DirFiles<'a, R> {
     /// No fetch has failed yet.
-    pub fn new(rt: &'a R, alloc: Global) -> DirFiles<'a, R> {
+    pub fn new(rt: &'a R, alloc: Global) -> DirFiles<'a, R>
+        ensures { result ≡ [] }
+    {
         DirFiles {
             rt,
             alloc,
@@ -86,10 +98,15 @@ fn read_file<R: std::rt::Files>(rt: &R, alloc: Global, name: &str, limit: usize)
 
 impl<R: std::rt::Files> Files for DirFiles<'_, R> {
     ghost held = { λ _ _. None };
-    ghost faults = { λ d. times_in d.failed };
+    ghost faults = { times_in };
 
-    /// Reads the file of this name to its end.
-    fn fetch(&mut self, alloc: Global, name: &str, limit: usize) -> Result<Vec<u8>, Fetch> {
+    /// Reads the file of this name to its end. Fails where std can't open or read it.
+    fn fetch(&mut self, alloc: Global, name: &str, limit: usize) -> Result<Vec<u8>, Fetch>
+        ensures within { IfOk result (λ bytes. length bytes.items ≤ limit) }
+        ensures after { self.new ≡ failed_after result self.old name.now }
+        ensures failed { IsErrOf result Fetch.Failed → Rose (times_in self.old name.now) (times_in self.new name.now) }
+        ensures others { (n : List ℕ) → n ≢ name.now → times_in self.new n ≡ times_in self.old n }
+    {
         let answer = read_file(self.rt, alloc, name, limit);
         if let Err(Fetch::Failed) = answer {
             note(self.alloc, &mut self.failed, name)?;

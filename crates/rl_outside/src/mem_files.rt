@@ -1,9 +1,9 @@
 ghost use Rattle.std.specs.Prelude.{◌≡◌, ◌≢◌, ℕ, List, [], ◌∷◌, ◌++◌, Some, Ok, Err, position, IfOk, IfErr, OnOk, OnErr, IsErrOf};
 ghost use Rattle.std.specs.Option.{option_copied};
 ghost use Rattle.std.specs.Str.{bytes_eq};
-ghost use Rattle.rl_outside.specs.Causes.{Rose, times_in};
+ghost use Rattle.rl_outside.specs.Causes.{Rose, times_in, failed_after};
 ghost use Rattle.rl_outside.specs.Numbering.{number_after};
-ghost use Rattle.rl_outside.specs.MemFiles.{bytes_under, answer_of, read_within, failed_after};
+ghost use Rattle.rl_outside.specs.MemFiles.{bytes_under, answer_of, read_within};
 
 use crate::failed::{FailedNames, note, times_in};
 use crate::files::{Fetch, Files};
