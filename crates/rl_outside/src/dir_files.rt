@@ -114,3 +114,30 @@ impl<R: std::rt::Files> Files for DirFiles<'_, R> {
         answer
     }
 }
+
+#[cfg(test)]
+mod tests {
+    use super::*;
+    use std::io;
+
+    /// A file with no end, which counts the bytes that it gave.
+    struct Endless {
+        given: usize,
+    }
+
+    impl Read for Endless {
+        fn read(&mut self, buf: &mut [u8]) -> io::Result<usize> {
+            self.given = self.given.saturating_add(buf.len());
+            Ok(buf.len())
+        }
+    }
+
+    #[test]
+    fn a_file_is_read_one_byte_past_the_limit(rt: HostRuntime) {
+        let mut file = Endless { given: 0 };
+        let answer = read_whole(&mut file, rt.alloc(), 5000);
+        assert_eq!(rt; answer.err(), Some(Fetch::TooLong));
+        assert_eq!(rt; file.given, 5001);
+        let Endless { given: _ } = file;
+    }
+}

@@ -21,3 +21,6 @@ pub use mem_files::MemFiles;
 pub use mem_sink::MemSink;
 pub use sink::{Sink, SinkFault, put_all};
 pub use std_sink::StdSink;
+
+#[cfg(test)]
+mod tests;
