@@ -1,0 +1,4 @@
+pub mod Network
+pub mod Reading
+pub mod Table
+pub mod Values
