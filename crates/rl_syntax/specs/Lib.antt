@@ -1,3 +1,6 @@
+pub mod Answer
+pub mod Condition
+pub mod NameConditions
 pub mod Network
 pub mod Reading
 pub mod Table

@@ -6,11 +6,14 @@
 
 mod boxes;
 mod keys;
+mod named;
 mod names;
 mod network;
+mod read;
 mod refusal;
 mod table;
 mod trains;
 mod values;
 
+pub use read::{MAX_TEXT, read_draft};
 pub use refusal::SyntaxRefusal;
