@@ -1,5 +1,6 @@
 pub mod Answer
 pub mod Condition
+pub mod KeyConditions
 pub mod NameConditions
 pub mod Network
 pub mod Reading

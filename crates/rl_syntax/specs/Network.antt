@@ -69,12 +69,9 @@ trains_of = each train_in []
 -- the three lists of a draft
 unfoldable pub lists_of : Members → Read Draft
 lists_of m = do
-  segments ← optional_array Segments (get_member (codes "segments") m)
-  segments ← names_of lists.Segments segments
-  boxes ← optional_array Boxes (get_member (codes "box") m)
-  boxes ← boxes_of boxes
-  trains ← optional_array Trains (get_member (codes "train") m)
-  trains ← trains_of trains
+  segments ← optional_array Segments (get_member (codes "segments") m) >>= names_of lists.Segments
+  boxes ← optional_array Boxes (get_member (codes "box") m) >>= boxes_of
+  trains ← optional_array Trains (get_member (codes "train") m) >>= trains_of
   Ok (record { segments = segments; boxes = boxes; trains = trains })
 
 -- the draft of a document
