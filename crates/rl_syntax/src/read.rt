@@ -2,6 +2,7 @@ ghost use Rattle.std.specs.Prelude.{◌≡◌, ◌<◌, length, IfOk};
 ghost use Rattle.rl_base.specs.Draft.{HasNames};
 ghost use Rattle.toml.specs.View.{table_view};
 ghost use Rattle.rl_syntax.specs.Answer.{document, answer_to, Answers, Parses};
+ghost use Rattle.rl_syntax.specs.Meaning.{Means};
 
 use crate::named::test_draft;
 use crate::network::draft_of;
@@ -29,15 +30,10 @@ fn document_of(alloc: Global, text: &[u8]) -> Result<Table, SyntaxRefusal>
     }
 }
 
-/// Reads a network text: its draft, or the first refusal in the order of the variants of `SyntaxRefusal`.
 #[tactic(auto, unfolding(crate::specs::Answer::answer_to))]
-pub fn read_draft(alloc: Global, text: &[u8]) -> Result<Draft, SyntaxRefusal>
-    // The one answer that the text has, unless memory runs out.
+fn answer_of(alloc: Global, text: &[u8]) -> Result<Draft, SyntaxRefusal>
     ensures answer { Answers result (answer_to text.now) }
-    // A text that is too long is refused before anything is read, whatever memory is left.
     ensures too_long { 65536 < length text.now → result ≡ Err SyntaxRefusal.TooLong }
-    // What is drafted has names in every place of a name.
-    ensures names { IfOk result HasNames }
 {
     if text.len() > MAX_TEXT {
         return Err(SyntaxRefusal::TooLong);
@@ -46,4 +42,18 @@ pub fn read_draft(alloc: Global, text: &[u8]) -> Result<Draft, SyntaxRefusal>
     let draft = draft_of(alloc, &table)?;
     test_draft(&draft)?;
     Ok(draft)
+}
+
+/// Reads a network text: its draft, or the first refusal in the order of the variants of `SyntaxRefusal`.
+pub fn read_draft(alloc: Global, text: &[u8]) -> Result<Draft, SyntaxRefusal>
+    // The one answer that the text has, unless memory runs out.
+    ensures answer { Answers result (answer_to text.now) }
+    // What that answer says of the text: which condition holds first, or which draft stands there.
+    ensures meaning { Means text.now result }
+    // A text that is too long is refused before anything is read, whatever memory is left.
+    ensures too_long { 65536 < length text.now → result ≡ Err SyntaxRefusal.TooLong }
+    // Each text of a draft that should be a name is one.
+    ensures names { IfOk result HasNames }
+{
+    answer_of(alloc, text)
 }
