@@ -1,0 +1,4 @@
+pub mod Orders
+pub mod Judged
+pub mod Lines
+pub mod Meaning

@@ -1,0 +1,56 @@
+-- What each answer of the program says of the words, the files and what was written.
+use Rattle.std.specs.Prelude.{◌≡◌, ℕ, ◌<◌, List, Option, None, Some, Result, Ok, Err, IfSome}
+use Rattle.rl_base.specs.declared.place.Place.{Place}
+use Rattle.rl_model.specs.declared.network.NetworkPlan.{NetworkPlan}
+use Rattle.rl_model.specs.declared.report.Report.{Report}
+use Rattle.rl_model.specs.Reports.{IsReportOf, IsRightReport}
+use Rattle.rl_model.specs.ReportText.{report_text}
+use Rattle.rl_direct.specs.Direct.{IsDirectReport}
+use Rattle.rl_outside.specs.Sink.{grown, GrownByPart}
+use Rattle.relis.specs.Orders.{Order, order_of, net_of, Check, Drive}
+use Rattle.relis.specs.Judged.{Refused, refused_as, judged}
+use Rattle.relis.specs.Lines.{usage_line, read_fault_line, refused_line, accepted_line}
+use Rattle.relis.specs.declared.status.Status.{Status}
+use Rattle.relis.specs.declared.status.Status.TheVariants as status
+
+-- the text is that of a report of so many rounds on the network, and the report is right
+pub record IsDriveText (net : NetworkPlan) (rounds : ℕ) (text : List ℕ) : Type 0 where
+  pub report : Report
+  pub driven : IsDirectReport net 100 rounds report
+  pub formed : IsReportOf net report
+  pub right : IsRightReport net report
+  pub text_is : text ≡ report_text net report
+
+-- the command's own text on an accepted network
+abbrev pub IsTextOf : Order → NetworkPlan → List ℕ → Type 0
+IsTextOf (Check name) net text = text ≡ accepted_line net
+IsTextOf (Drive name rounds) net text = IsDriveText net rounds text
+
+-- the order is carried out on a network text of these bytes
+abbrev pub IsAnswerTo : Order → List ℕ → Status → List ℕ → Type 0
+IsAnswerTo order bytes status.Done text = (net : NetworkPlan) × (judged bytes ≡ Ok net) × IsTextOf order net text
+IsAnswerTo order bytes (status.Refused number place) text = (judged bytes ≡ Err (refused_as number place)) × (text ≡ refused_line number place)
+IsAnswerTo order bytes _ text = ⊥
+
+-- the bytes are those that the files tell under the name of the order's network, where they tell them
+abbrev pub AreTold : (List ℕ → Option (List ℕ)) → Order → List ℕ → Type 0
+AreTold held order bytes = IfSome (held (net_of order)) (λ there. bytes ≡ there)
+
+-- the order is carried out on the network text that the files hold
+abbrev pub IsCarriedOut : (List ℕ → Option (List ℕ)) → Order → Status → List ℕ → Type 0
+IsCarriedOut held order answer text = (bytes : List ℕ) × AreTold held order bytes × IsAnswerTo order bytes answer text
+
+-- the words lead to this answer and to its text, over files that hold these bytes
+abbrev pub LeadsTo : List (List ℕ) → (List ℕ → Option (List ℕ)) → Status → List ℕ → Type 0
+LeadsTo words held status.Usage text = (order_of words ≡ None) × (text ≡ usage_line)
+LeadsTo words held status.ReadFault text = (order : Order) × (order_of words ≡ Some order) × (text ≡ read_fault_line)
+LeadsTo words held status.WriteFault text = ⊥
+LeadsTo words held status.NoMemory text = ⊥
+LeadsTo words held answer text = (order : Order) × (order_of words ≡ Some order) × IsCarriedOut held order answer text
+
+-- What the sink took in a call with this answer: the whole text, or at a write fault a proper part of the
+-- text of the answer that it stands for, or nothing where memory ran out
+abbrev pub IsWritten : List (List ℕ) → (List ℕ → Option (List ℕ)) → Option (List ℕ) → Option (List ℕ) → Status → Type 0
+IsWritten words held before now status.NoMemory = now ≡ before
+IsWritten words held before now status.WriteFault = (answer : Status) × (text : List ℕ) × LeadsTo words held answer text × GrownByPart before now text
+IsWritten words held before now answer = (text : List ℕ) × LeadsTo words held answer text × (now ≡ grown before text)

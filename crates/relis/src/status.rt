@@ -1,0 +1,20 @@
+ghost use Rattle.std.specs.Prelude.{◌≡◌};
+
+use rl_base::Place;
+
+/// How a call of the program ends.
+#[derive(Clone, Copy, Debug, PartialEq, Eq)]
+pub enum Status {
+    /// The command's text was written.
+    Done,
+    /// The words are no written form of a command.
+    Usage,
+    /// A file that the words name could not be read.
+    ReadFault,
+    /// The text that was read is refused, by the rule of this number, at this place.
+    Refused { number: u32, place: Place },
+    /// A write failed. The beginning of a text may have been written.
+    WriteFault,
+    /// Memory ran out, and nothing was written.
+    NoMemory,
+}
