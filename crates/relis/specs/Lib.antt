@@ -2,3 +2,4 @@ pub mod Orders
 pub mod Judged
 pub mod Lines
 pub mod Meaning
+pub mod Written

@@ -1,6 +1,5 @@
 -- What each answer of the program says of the words, the files and what was written.
-use Rattle.std.specs.Prelude.{◌≡◌, ℕ, ◌<◌, List, Option, None, Some, Result, Ok, Err, IfSome}
-use Rattle.rl_base.specs.declared.place.Place.{Place}
+use Rattle.std.specs.Prelude.{◌≡◌, ℕ, List, Option, None, Some, Ok, Err, IfSome}
 use Rattle.rl_model.specs.declared.network.NetworkPlan.{NetworkPlan}
 use Rattle.rl_model.specs.declared.report.Report.{Report}
 use Rattle.rl_model.specs.Reports.{IsReportOf, IsRightReport}
@@ -8,7 +7,7 @@ use Rattle.rl_model.specs.ReportText.{report_text}
 use Rattle.rl_direct.specs.Direct.{IsDirectReport}
 use Rattle.rl_outside.specs.Sink.{grown, GrownByPart}
 use Rattle.relis.specs.Orders.{Order, order_of, net_of, Check, Drive}
-use Rattle.relis.specs.Judged.{Refused, refused_as, judged}
+use Rattle.relis.specs.Judged.{refused_as, judged}
 use Rattle.relis.specs.Lines.{usage_line, read_fault_line, refused_line, accepted_line}
 use Rattle.relis.specs.declared.status.Status.{Status}
 use Rattle.relis.specs.declared.status.Status.TheVariants as status
