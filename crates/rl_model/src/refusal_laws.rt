@@ -1,0 +1,11 @@
+ghost use Rattle.std.specs.Prelude.{◌≡◌, Some, None};
+ghost use Rattle.rl_base.specs.declared.draft.Draft.{Draft};
+ghost use Rattle.rl_model.specs.Refusals.{Refusal, IsFirstRefusal, IsAccepted, first_refusal};
+
+/// The first refusal is the rule with the least number that a draft breaks, at the first place in the
+/// order of places; a draft without one breaks no rule.
+pub fn first_refusals()
+    ensures first { (d : Draft) (r : Refusal) → first_refusal d ≡ Some r → IsFirstRefusal d r.rule r.place }
+    ensures accepted { (d : Draft) → first_refusal d ≡ None → IsAccepted d }
+{
+}
