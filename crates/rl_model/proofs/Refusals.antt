@@ -1,11 +1,11 @@
 -- The search of a draft's refusals answers the plain sentence, and the plain sentence has one answer.
-use Rattle.std.proofs.Common.{◌≡◌, ℕ, ◌<◌, Bool, true, false, ltb, ◌&&◌, List, [], ◌∷◌, Option, Some, None, ◌⊎◌, inl, inr, ⊎_elim, refl, sym, ap, ◌∙◌, subst, arith}
+use Rattle.std.proofs.Common.{◌≡◌, ℕ, ◌<◌, Bool, true, false, ltb, ◌&&◌, List, [], ◌∷◌, Option, Some, None, ◌⊎◌, inl, inr, ⊎_elim, refl, sym, ap, ap₂, ◌∙◌, subst, arith}
 use Rattle.std.proofs.lemmas.Bool.{both_ways, and_parts, ltb-true}
 use Rattle.std.specs.Option.{option_or, option_map}
 use Rattle.rl_base.specs.declared.place.Place.{Place}
 use Rattle.rl_base.specs.declared.draft.Draft.{Draft}
 use Rattle.rl_model.specs.Refusals.{Rule, Count, Twice, ArmCount, NoSegment, SameBox, Ends, At, RouteShape, RouteName, RouteFit, StartShared, number_of, breaks, first_place, first_of, first_refusal, Refusal, IsFirstRefusal, IsAccepted}
-use Rattle.rl_model.proofs.Search.{Finds, IsNoLater}
+use Rattle.rl_model.proofs.Search.{Finds, IsNoLater, IsNoLater-antisymmetric}
 use Rattle.rl_model.proofs.Places.{AnswersRule, each_rule}
 
 -- the rule is one of these
@@ -98,3 +98,30 @@ pub first_refusal-none : (d : Draft) → first_refusal d ≡ None → IsAccepted
 first_refusal-none d e =
     let a : ((other : Rule) (q : Place) → IsIn other all_rules → breaks d other q ≡ false) = subst (λ (o : Option Refusal). Answers d all_rules o) e (refusal_answers d) in
     λ rule p. a rule p (is_rule rule)
+
+-- the first refusal is the only one
+same_refusal : (d : Draft) (r u : Refusal) → IsFirstRefusal d r.rule r.place → IsFirstRefusal d u.rule u.place → r ≡ u
+same_refusal d r u a b = both (a.least u.rule u.place b.broken) (b.least r.rule r.place a.broken)
+  where
+    both : IsNoLaterRefusal r.rule r.place u.rule u.place → IsNoLaterRefusal u.rule u.place r.rule r.place → r ≡ u
+    both (inl x) (inl y) = absurd (omega arith)
+    both (inl x) (inr y) = absurd (omega (arith, ap number_of y.0))
+    both (inr x) (inl y) = absurd (omega (arith, ap number_of x.0))
+    both (inr x) (inr y) =
+        ap₂ (λ (rule : Rule) (p : Place). let w : Refusal = record { rule = rule; place = p } in w) x.0 (IsNoLater-antisymmetric r.place u.place x.1 y.1)
+
+-- what is found is the refusal that the plain sentence names, if something is found
+found_by : (d : Draft) (r : Refusal) → IsFirstRefusal d r.rule r.place → (o : Option Refusal) → first_refusal d ≡ o → o ≡ Some r
+found_by d r a None e = absurd (both_ways (breaks d r.rule r.place) (first_refusal-none d e r.rule r.place) a.broken)
+found_by d r a (Some u) e = ap (λ (x : Refusal). Some x) (same_refusal d u r (first_refusal-some d u e) a)
+
+pub first_refusal-found : (d : Draft) (r : Refusal) → IsFirstRefusal d r.rule r.place → first_refusal d ≡ Some r
+first_refusal-found d r a = found_by d r a (first_refusal d) refl
+
+-- nothing is found where no rule is broken
+none_by : (d : Draft) → IsAccepted d → (o : Option Refusal) → first_refusal d ≡ o → o ≡ None
+none_by d a None e = refl
+none_by d a (Some u) e = absurd (both_ways (breaks d u.rule u.place) (a u.rule u.place) (first_refusal-some d u e).broken)
+
+pub first_refusal-accepted : (d : Draft) → IsAccepted d → first_refusal d ≡ None
+first_refusal-accepted d a = none_by d a (first_refusal d) refl
