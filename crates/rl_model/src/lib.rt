@@ -16,5 +16,5 @@ pub use network::{
     BoxIds, NetworkPlan, SegIds, Segment, SegmentEnd, Segments, SwitchBox, SwitchBoxes, Train,
     Trains,
 };
-pub use refusal_laws::first_refusals;
+pub use refusal_laws::{accepted_networks, first_refusals};
 pub use report::{Fate, Outcome, Outcomes, Report};
