@@ -1,7 +1,4 @@
-use Rattle.rl_model.proofs.Numbers.{number_in-place}
-use Rattle.rl_model.proofs.Ends.{ends_from-rising, two_ends}
-use Rattle.rl_model.proofs.RouteNames.{find-number}
-use Rattle.rl_model.proofs.Lookups.{any_from}
+use Rattle.rl_model.proofs.Accepted.{IsSound-from_accepted}
 use Rattle.rl_model.proofs.refusal_laws.accepted_networks.Goals as goal
 
 pub returns : goal.returns
