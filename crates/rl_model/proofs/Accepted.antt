@@ -1,5 +1,5 @@
 -- What holds of a draft of which no rule is broken, in plain facts.
-use Rattle.std.proofs.Common.{◌≡◌, ℕ, zero, suc, ◌+◌, ◌*◌, ◌%◌, ◌<◌, ◌≤◌, ◌≢◌, Bool, true, false, cond, not, eqb, ltb, ◌&&◌, List, [], ◌∷◌, length, map, take, slice_get, is_some, is_none, bytes_eq, unwrap_or, Option, Some, None, refl, sym, ap, ◌∙◌, subst, arith}
+use Rattle.std.proofs.Common.{◌≡◌, ℕ, suc, ◌*◌, ◌%◌, ◌<◌, ◌≤◌, ◌≢◌, Bool, true, false, cond, not, eqb, ltb, ◌&&◌, List, length, take, slice_get, is_some, is_none, bytes_eq, unwrap_or, Option, Some, None, refl, sym, ap, ◌∙◌, subst, arith}
 use Rattle.std.proofs.lemmas.Bool.{false≢true, both_ways, not-false, ltb-false, eqb-true, eqb-false, eq-eqb, ne_eqb, lt-ltb}
 use Rattle.std.specs.Option.{option_map_or}
 use Rattle.rl_base.specs.declared.kind.Kind.{Kind}
@@ -69,32 +69,38 @@ not_missing : (names : List (List ℕ)) (name : List ℕ) → not (is_among name
 not_missing names name e = some_value (number_in names name) (not-false (is_among names name) e)
 
 module _ (d : Draft) (a : IsAccepted d) where
+  -- the name at an arm is a segment
   arm_name : (b i : ℕ) (name : List ℕ) → IsArm d b i name → (s : ℕ) × (number_in d.segments name ≡ Some s)
   arm_name b i name h =
       let at = test_fails (λ (x : DraftBox). on_name x.arms i (λ n. not (is_among d.segments n))) (slice_get d.boxes b) h.item h.box (a NoSegment (place.BoxArm b i)) in
       not_missing d.segments name (test_fails (λ n. not (is_among d.segments n)) (slice_get h.item.arms i) name h.arm at)
 
+  -- the name at a place of a route isn't missing among the names of its kind
   route_name : (t j : ℕ) (name : List ℕ) → IsRoutePlace d t j name → not (is_among (cond (eqb (j % 2) 0) d.segments (box_names d)) name) ≡ false
   route_name t j name h =
       let at = test_fails (λ (x : DraftTrain). on_name x.route j (λ n. not (is_among (cond (eqb (j % 2) 0) d.segments (box_names d)) n))) (slice_get d.trains t) h.item h.train (a RouteName (place.RouteItem t j)) in
       test_fails (λ n. not (is_among (cond (eqb (j % 2) 0) d.segments (box_names d)) n)) (slice_get h.item.route j) name h.place at
 
+  -- the name at an even place of a route is a segment
   route_segment_name : (t k : ℕ) (name : List ℕ) → IsRoutePlace d t (2 * k) name → (s : ℕ) × (number_in d.segments name ≡ Some s)
   route_segment_name t k name h =
       let even : eqb ((2 * k) % 2) 0 ≡ true = eq-eqb ((2 * k) % 2) 0 (omega arith) in
       not_missing d.segments name (subst (λ (w : Bool). not (is_among (cond w d.segments (box_names d)) name) ≡ false) even (route_name t (2 * k) name h))
 
+  -- the name at an odd place of a route is a box
   route_box_name : (t k : ℕ) (name : List ℕ) → IsRoutePlace d t (suc (2 * k)) name → (b : ℕ) × (number_in (box_names d) name ≡ Some b)
   route_box_name t k name h =
       let odd : eqb (suc (2 * k) % 2) 0 ≡ false = ne_eqb (suc (2 * k) % 2) 0 (λ e. omega arith) in
       not_missing (box_names d) name (subst (λ (w : Bool). not (is_among (cond w d.segments (box_names d)) name) ≡ false) odd (route_name t (suc (2 * k)) name h))
 
+  -- the box at an odd place of a route connects the segments around it
   route_fits : (t k : ℕ) (x : DraftTrain) → slice_get d.trains t ≡ Some x → suc (2 * k) < length x.route → fits_at d x.route (suc (2 * k)) ≡ true
   route_fits t k x e l =
       let j = suc (2 * k) in
       let at = test_fails (λ (w : DraftTrain). eqb (j % 2) 1 && ltb j (length w.route) && not (fits_at d w.route j)) (slice_get d.trains t) x e (a RouteFit (place.RouteItem t j)) in
       not-false (fits_at d x.route j) (third_fails _ _ _ at (eq-eqb (j % 2) 1 (omega arith)) (lt-ltb j (length x.route) l))
 
+  -- two trains have no first name in common
   first_names : (t u : ℕ) (name : List ℕ) → t < u → IsRoutePlace d t 0 name → IsRoutePlace d u 0 name → ⊥
   first_names t u name l h k =
       let at = test_fails (λ (x : DraftTrain). on_name x.route 0 (is_start (starts_below d u))) (slice_get d.trains u) k.item k.train (a StartShared (place.RouteItem u 0)) in

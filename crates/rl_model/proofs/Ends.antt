@@ -1,6 +1,5 @@
 -- The arms that name a segment, as ends in the order of boxes and arms.
-use Rattle.std.proofs.Common.{◌≡◌, ℕ, zero, suc, ◌+◌, ◌<◌, ◌≤◌, Bool, true, false, cond, List, [], ◌∷◌, ◌++◌, length, slice_get, slice_index_or, bytes_eq, Option, Some, None, ◌⊎◌, inl, inr, ⊎_elim, refl, sym, ap, ap₂, ◌∙◌, subst, arith}
-use Rattle.std.proofs.lemmas.Bool.{both_ways}
+use Rattle.std.proofs.Common.{◌≡◌, ℕ, zero, suc, ◌+◌, ◌<◌, Bool, true, false, cond, List, [], ◌∷◌, ◌++◌, length, slice_get, slice_index_or, bytes_eq, Some, ◌⊎◌, inl, inr, ⊎_elim, refl, sym, ap, ap₂, ◌∙◌, subst, arith}
 use Rattle.std.proofs.lemmas.Option.{none-some, same_Some}
 use Rattle.rl_base.specs.declared.draft.DraftBox.{DraftBox}
 use Rattle.rl_model.specs.declared.network.SegmentEnd.{SegmentEnd}
@@ -12,15 +11,18 @@ abbrev pub IsMember : SegmentEnd → List SegmentEnd → Type 0
 IsMember e [] = ⊥
 IsMember e (x ∷ xs) = (e ≡ x) ⊎ IsMember e xs
 
+-- a member of the first list is one of both together
 IsMember-left : (e : SegmentEnd) (xs ys : List SegmentEnd) → IsMember e xs → IsMember e (xs ++ ys)
 IsMember-left e [] ys h = absurd h
 IsMember-left e (x ∷ xs) ys (inl h) = inl h
 IsMember-left e (x ∷ xs) ys (inr h) = inr (IsMember-left e xs ys h)
 
+-- and so is a member of the second
 IsMember-right : (e : SegmentEnd) (xs ys : List SegmentEnd) → IsMember e ys → IsMember e (xs ++ ys)
 IsMember-right e [] ys h = h
 IsMember-right e (x ∷ xs) ys h = inr (IsMember-right e xs ys h)
 
+-- and there is no other
 IsMember-cases : (e : SegmentEnd) (xs ys : List SegmentEnd) → IsMember e (xs ++ ys) → IsMember e xs ⊎ IsMember e ys
 IsMember-cases e [] ys h = inr h
 IsMember-cases e (x ∷ xs) ys (inl h) = inl (inl h)
@@ -31,6 +33,7 @@ abbrev pub AreRising : List SegmentEnd → Type 0
 AreRising [] = Unit {0}
 AreRising (x ∷ xs) = ((e : SegmentEnd) → IsMember e xs → x.at.0 < e.at.0) × AreRising xs
 
+-- rising ends and then rising ends at boxes with higher numbers rise
 AreRising-append : (xs ys : List SegmentEnd) → AreRising xs → AreRising ys → ((x y : SegmentEnd) → IsMember x xs → IsMember y ys → x.at.0 < y.at.0) → AreRising (xs ++ ys)
 AreRising-append [] ys a b before = b
 AreRising-append (x ∷ xs) ys a b before =
@@ -83,6 +86,7 @@ ends_in_box-complete b i (arm ∷ arms) name e (suc place) p q h =
     at true h = inr h
     at false h = h
 
+-- the rest of distinct names is distinct
 AreDistinct-rest : (name : List ℕ) (names : List (List ℕ)) → AreDistinct (name ∷ names) → AreDistinct names
 AreDistinct-rest name names h =
     record { same = λ i j n a b. let k : suc i ≡ suc j = h.same (suc i) (suc j) n a b in omega arith }
@@ -118,6 +122,7 @@ ends_from-sound b (x ∷ xs) name e h =
         let a : e.at.0 ≡ b + 0 = omega (arith, k.at) in
         let i : k.place ≡ e.arm.0 = omega (arith, k.arm) in
         record { place = 0; item = x; at = a; box = refl; arm = subst (λ (n : ℕ). slice_get x.arms n ≡ Some name) i k.item }
+
     further : IsEndFrom (suc b) xs name e → IsEndFrom b (x ∷ xs) name e
     further k =
         let a : e.at.0 ≡ b + suc k.place = omega (arith, k.at) in

@@ -1,5 +1,5 @@
 -- The network of a draft that is sound and has names for names is a network.
-use Rattle.std.proofs.Common.{◌≡◌, ℕ, zero, suc, ◌+◌, ◌-◌, ◌*◌, ◌%◌, ◌<◌, ◌≤◌, ◌≢◌, Bool, true, false, cond, eqb, ◌||◌, IsTrue, List, [], ◌∷◌, length, map, drop, slice_get, find, bytes_eq, unwrap_or, Option, Some, None, option_map, option_and_then, ◌⊎◌, inl, inr, ⊎_elim, refl, sym, ap, ap₂, ◌∙◌, subst, subst₂, arith, length-drop}
+use Rattle.std.proofs.Common.{◌≡◌, ℕ, suc, ◌+◌, ◌-◌, ◌*◌, ◌<◌, ◌≤◌, Bool, true, false, cond, eqb, List, [], ◌∷◌, map, drop, slice_get, unwrap_or, Option, Some, None, option_map, option_and_then, inl, inr, ⊎_elim, refl, sym, ap, ap₂, ◌∙◌, subst, subst₂, arith, length-drop}
 use Rattle.std.proofs.lemmas.Bool.{false≢true, or_cases, or_left, or_right, cases_order, eq-eqb, ne_eqb}
 use Rattle.std.proofs.lemmas.List.{length-map}
 use Rattle.std.proofs.lemmas.Option.{slice_get_within, same_Some}
@@ -7,26 +7,25 @@ use Rattle.std.specs.Option.{option_map_or}
 use Rattle.rl_base.specs.declared.ids.SegId.{SegId}
 use Rattle.rl_base.specs.declared.ids.BoxId.{BoxId}
 use Rattle.rl_base.specs.declared.kind.Kind.{Kind}
-use Rattle.rl_base.specs.declared.kind.Kind.TheVariants.{Buffer, Point}
+use Rattle.rl_base.specs.declared.kind.Kind.TheVariants.{Buffer}
 use Rattle.rl_base.specs.declared.kind.Side.{Side}
 use Rattle.rl_base.specs.declared.kind.Side.TheVariants.{Left, Right}
 use Rattle.rl_base.specs.declared.draft.DraftBox.{DraftBox}
 use Rattle.rl_base.specs.declared.draft.DraftTrain.{DraftTrain}
 use Rattle.rl_base.specs.declared.draft.Draft.{Draft}
 use Rattle.rl_base.specs.Draft.{HasNames}
-use Rattle.rl_base.specs.Kind.{arms_of, arms_join}
+use Rattle.rl_base.specs.Kind.{arms_of}
 use Rattle.rl_base.specs.Name.{is_name}
 use Rattle.rl_model.specs.declared.network.SegmentEnd.{SegmentEnd}
 use Rattle.rl_model.specs.declared.network.Segment.{Segment}
 use Rattle.rl_model.specs.declared.network.SwitchBox.{SwitchBox}
 use Rattle.rl_model.specs.declared.network.Train.{Train}
-use Rattle.rl_model.specs.declared.network.NetworkPlan.{NetworkPlan}
 use Rattle.rl_model.specs.Network.{arm_at, arm_of, kind_of, joined, can_connect, segment_at, route_segment, route_box, StartsOn, IsStep, IsEndOf, IsSegment, IsBox, IsTrain, IsNetwork}
 use Rattle.rl_model.specs.Drafts.{number_in, box_names, train_names, segment_number, box_number, every_other, end_at, ends_of, segment_of, box_of, train_of, network_of}
-use Rattle.rl_model.specs.Refusals.{connects_names, fits_at, box_named, first_refusal}
+use Rattle.rl_model.specs.Refusals.{connects_names, box_named, first_refusal}
 use Rattle.rl_model.proofs.Lookups.{map_some, then_some, mapped_item, item_mapped, all_at}
 use Rattle.rl_model.proofs.Numbers.{AreDistinct, number_in-item, number_in-place}
-use Rattle.rl_model.proofs.Ends.{IsMember, AreRising, IsEndFrom, ends_from-sound, ends_from-complete, ends_from-rising, two_ends}
+use Rattle.rl_model.proofs.Ends.{IsMember, AreRising, ends_from-sound, ends_from-complete, ends_from-rising, two_ends}
 use Rattle.rl_model.proofs.RouteNames.{every_other-item, every_other-odd, length-every_other, find-number}
 use Rattle.rl_model.proofs.Accepted.{IsArm, IsRoutePlace, IsSound, IsSound-from_accepted}
 use Rattle.rl_model.proofs.Refusals.{first_refusal-none}
@@ -50,11 +49,20 @@ joined_more kind side (Some x) (Some y) o2 u2 f g h =
 joined_more kind side (Some x) None o2 u2 f g h = absurd (false≢true h)
 joined_more kind side None u o2 u2 f g h = absurd (false≢true h)
 
+-- things made of things with distinct names have one place for each name
+same_places : {A B : Type 0} (f : A → B) (own : A → List ℕ) (name : B → List ℕ) → ((x : A) → name (f x) ≡ own x) → (xs : List A) (names : List (List ℕ)) → ((k : ℕ) (x : A) → slice_get xs k ≡ Some x → slice_get names k ≡ Some (own x)) → AreDistinct names → (k k2 : ℕ) (y y2 : B) → slice_get (map f xs) k ≡ Some y → slice_get (map f xs) k2 ≡ Some y2 → name y ≡ name y2 → k ≡ k2
+same_places f own name named xs names listed distinct k k2 y y2 e e2 h =
+    let x = mapped_item f xs k y e in
+    let x2 = mapped_item f xs k2 y2 e2 in
+    let same : own x.0 ≡ own x2.0 = sym (named x.0) ∙ ap name x.2 ∙ h ∙ sym (ap name x2.2) ∙ named x2.0 in
+    distinct.same k k2 (own x2.0) (listed k x.0 x.1 ∙ ap (λ (n : List ℕ). Some n) same) (listed k2 x2.0 x2.1)
+
 module _ (d : Draft) (sound : IsSound d) where
   -- the number of a name that has one
   segment_number-is : (name : List ℕ) (s : ℕ) → number_in d.segments name ≡ Some s → (segment_number d name).0 ≡ s
   segment_number-is name s e = ap (λ (o : Option ℕ). unwrap_or o 0) e
 
+  -- and likewise of a box
   box_number-is : (name : List ℕ) (b : ℕ) → number_in (box_names d) name ≡ Some b → (box_number d name).0 ≡ b
   box_number-is name b e = ap (λ (o : Option ℕ). unwrap_or o 0) e
 
@@ -64,34 +72,39 @@ module _ (d : Draft) (sound : IsSound d) where
       let same : n ≡ s = sym (segment_number-is name n e) ∙ ap (λ (w : SegId). w.0) p ∙ q in
       subst (λ (m : ℕ). number_in d.segments name ≡ Some m) same e
 
+  -- and likewise of a box
   box_named_by : (name : List ℕ) (n b : ℕ) (id : BoxId) → number_in (box_names d) name ≡ Some n → box_number d name ≡ id → id.0 ≡ b → number_in (box_names d) name ≡ Some b
   box_named_by name n b id e p q =
       let same : n ≡ b = sym (box_number-is name n e) ∙ ap (λ (w : BoxId). w.0) p ∙ q in
       subst (λ (m : ℕ). number_in (box_names d) name ≡ Some m) same e
 
-  -- an end that is listed is an arm with the name, and the other way round
+  -- an end that is listed is an arm with the name
   arm_of_member : (name : List ℕ) (e : SegmentEnd) → IsMember e (ends_of d name) → IsArm d e.at.0 e.arm.0 name
   arm_of_member name e m =
       let h = ends_from-sound 0 d.boxes name e m in
       let k : h.place ≡ e.at.0 = omega (arith, h.at) in
       record { item = h.item; box = subst (λ (n : ℕ). slice_get d.boxes n ≡ Some h.item) k h.box; arm = h.arm }
 
+  -- an arm with the name is listed
   member_of_arm : (name : List ℕ) (b i : ℕ) → IsArm d b i name → IsMember (end_at b i) (ends_of d name)
   member_of_arm name b i h = ends_from-complete 0 d.boxes name (end_at b i) b h.item (omega arith) h.box h.arm
 
-  -- a segment has two ends, which rise
+  -- a segment has two ends
   ends_are : (s : ℕ) (name : List ℕ) → slice_get d.segments s ≡ Some name → ends_of d name ≡ (segment_of d name).low ∷ (segment_of d name).high ∷ []
   ends_are s name e = two_ends (ends_of d name) (end_at 0 0) (sound.ends s name e)
 
+  -- the box of the first has the lower number
   ends_rise : (s : ℕ) (name : List ℕ) → slice_get d.segments s ≡ Some name → (segment_of d name).low.at.0 < (segment_of d name).high.at.0
   ends_rise s name e =
       let rising = subst AreRising (ends_are s name e) (ends_from-rising 0 d.boxes name sound.arms) in
       rising.0 (segment_of d name).high (inl refl)
 
+  -- the first is an arm with the name
   low_arm : (s : ℕ) (name : List ℕ) → slice_get d.segments s ≡ Some name → IsArm d (segment_of d name).low.at.0 (segment_of d name).low.arm.0 name
   low_arm s name e =
       arm_of_member name (segment_of d name).low (subst (IsMember (segment_of d name).low) (sym (ends_are s name e)) (inl refl))
 
+  -- and so is the second
   high_arm : (s : ℕ) (name : List ℕ) → slice_get d.segments s ≡ Some name → IsArm d (segment_of d name).high.at.0 (segment_of d name).high.arm.0 name
   high_arm s name e =
       arm_of_member name (segment_of d name).high (subst (IsMember (segment_of d name).high) (sym (ends_are s name e)) (inr (inl refl)))
@@ -102,14 +115,16 @@ module _ (d : Draft) (sound : IsSound d) where
       let m = subst (IsMember (end_at b i)) (ends_are s name e) (member_of_arm name b i h) in
       ap (option_and_then (arm_at b)) (item_mapped (segment_of d) d.segments s name e) ∙ ⊎_elim (λ low. arm_at-low b i (segment_of d name) low) (λ rest. ⊎_elim (λ high. arm_at-high b i (segment_of d name) (ends_rise s name e) high) (λ x. absurd x) rest) m
 
-  -- the kind and the arms of a box
+  -- the kind of a box
   kind_of-box : (b : ℕ) (x : DraftBox) → slice_get d.boxes b ≡ Some x → kind_of (network_of d) b ≡ x.kind
   kind_of-box b x e = ap (λ (o : Option SwitchBox). option_map_or (λ (w : SwitchBox). w.kind) o Buffer) (item_mapped (box_of d) d.boxes b x e)
 
+  -- the segment at an arm is the number of the name there
   segment_at-box : (b i : ℕ) (x : DraftBox) → slice_get d.boxes b ≡ Some x → segment_at (network_of d) b i ≡ option_map (λ (s : SegId). s.0) (slice_get (map (segment_number d) x.arms) i)
   segment_at-box b i x e =
       ap (option_and_then (λ (w : SwitchBox). option_map (λ (s : SegId). s.0) (slice_get w.arms i))) (item_mapped (box_of d) d.boxes b x e)
 
+  -- which is the segment that has the name
   segment_at-arm : (s : ℕ) (name : List ℕ) (b i : ℕ) → number_in d.segments name ≡ Some s → IsArm d b i name → segment_at (network_of d) b i ≡ Some s
   segment_at-arm s name b i e h =
       segment_at-box b i h.item h.box ∙ ap (option_map (λ (s : SegId). s.0)) (item_mapped (segment_number d) h.item.arms i name h.arm) ∙ ap (λ (n : ℕ). Some n) (segment_number-is name s e)
@@ -123,17 +138,18 @@ module _ (d : Draft) (sound : IsSound d) where
       let number = sound.arm_names b i name.0 arm in
       arm_of-arm s name.0 b i (number_in-item d.segments name.0 s (segment_named name.0 number.0 s at.0 number.1 name.2 at.2)) arm
 
-  -- the ends of a segment
+  -- an arm with the name of a segment is an end of it
   IsEndOf-arm : (s : ℕ) (name : List ℕ) (e : SegmentEnd) → slice_get d.segments s ≡ Some name → IsArm d e.at.0 e.arm.0 name → IsEndOf (network_of d) s e
   IsEndOf-arm s name e p h =
       record {
         box = subst (λ (n : ℕ). e.at.0 < n) (sym (length-map d.boxes (box_of d))) (slice_get_within d.boxes e.at.0 h.item h.box);
         arm =
-          subst (λ (n : ℕ). e.arm.0 < n) (sound.arm_counts e.at.0 h.item h.box ∙ ap arms_of (sym (kind_of-box e.at.0 h.item h.box)))
-          (slice_get_within h.item.arms e.arm.0 name h.arm);
+            subst (λ (n : ℕ). e.arm.0 < n) (sound.arm_counts e.at.0 h.item h.box ∙ ap arms_of (sym (kind_of-box e.at.0 h.item h.box)))
+            (slice_get_within h.item.arms e.arm.0 name h.arm);
         segment = segment_at-arm s name e.at.0 e.arm.0 (number_in-place d.segments sound.segments name s p) h;
       }
 
+  -- each segment is right
   segments_right : HasNames d → (s : ℕ) (g : Segment) → slice_get (network_of d).segments s ≡ Some g → IsSegment (network_of d) s g
   segments_right names s g e =
       let h = mapped_item (segment_of d) d.segments s g e in
@@ -145,6 +161,7 @@ module _ (d : Draft) (sound : IsSound d) where
         name = all_at is_name d.segments s h.0 names.segments h.1;
       })
 
+  -- each box is right
   boxes_right : HasNames d → (b : ℕ) (x : SwitchBox) → slice_get (network_of d).boxes b ≡ Some x → IsBox (network_of d) b x
   boxes_right names b x e =
       let h = mapped_item (box_of d) d.boxes b x e in
@@ -156,7 +173,7 @@ module _ (d : Draft) (sound : IsSound d) where
         name = all_at (λ (w : DraftBox). is_name w.name) d.boxes b h.0 names.boxes h.1;
       })
 
-  -- the names at the places of a route
+  -- the segment at a place of the route is the one whose name stands there
   route_segment-name : (t k s : ℕ) (x : DraftTrain) → slice_get d.trains t ≡ Some x → route_segment (network_of d) t k ≡ Some s → (name : List ℕ) × (slice_get x.route (2 * k) ≡ Some name) × (number_in d.segments name ≡ Some s)
   route_segment-name t k s x e h =
       let there = ap (option_and_then (λ (r : Train). option_map (λ (s : SegId). s.0) (slice_get r.segments k))) (item_mapped (train_of d) d.trains t x e) in
@@ -166,6 +183,7 @@ module _ (d : Draft) (sound : IsSound d) where
       let number = sound.route_segments t k name.0 (record { item = x; train = e; place = place }) in
       (name.0, place, segment_named name.0 number.0 s at.0 number.1 name.2 at.2)
 
+  -- the box at a place of the route is the one whose name stands there
   route_box-name : (t k b : ℕ) (x : DraftTrain) → slice_get d.trains t ≡ Some x → route_box (network_of d) t k ≡ Some b → (name : List ℕ) × (slice_get x.route (suc (2 * k)) ≡ Some name) × (number_in (box_names d) name ≡ Some b)
   route_box-name t k b x e h =
       let there = ap (option_and_then (λ (r : Train). option_map (λ (b : BoxId). b.0) (slice_get r.boxes k))) (item_mapped (train_of d) d.trains t x e) in
@@ -204,11 +222,12 @@ module _ (d : Draft) (sound : IsSound d) where
       let named = ap (option_and_then (box_named d)) through.1 ∙ find-number d.boxes through.0 b through.2 ∙ item.1 in
       let on_box = subst (λ (o : Option DraftBox). option_map_or (λ w. connects_names w (slice_get x.route (suc (2 * k) - 1)) (slice_get x.route (suc (2 * k) + 1))) o false ≡ true) named fits in
       let by_names =
-          subst₂ (λ (v w : Option (List ℕ)). connects_names item.0 v w ≡ true) (ap (slice_get x.route) before ∙ from.1) (ap (slice_get x.route) after ∙ to.1) on_box in
+      subst₂ (λ (v w : Option (List ℕ)). connects_names item.0 v w ≡ true) (ap (slice_get x.route) before ∙ from.1) (ap (slice_get x.route) after ∙ to.1) on_box in
       ⊎_elim (λ h. or_left _ _ (joined_numbers Left b s s2 item.0 from.0 to.0 item.1 from.2 to.2 h))
       (λ h. or_right _ _ (joined_numbers Right b s s2 item.0 from.0 to.0 item.1 from.2 to.2 h))
       (or_cases _ _ by_names)
 
+  -- each train is right
   trains_right : HasNames d → (t : ℕ) (r : Train) → slice_get (network_of d).trains t ≡ Some r → IsTrain (network_of d) t r
   trains_right names t r e =
       let h = mapped_item (train_of d) d.trains t r e in
@@ -238,6 +257,7 @@ module _ (d : Draft) (sound : IsSound d) where
       let n = route_segment-name t 0 s x.0 x.1 h in
       (n.0, record { item = x.0; train = x.1; place = n.1 }, number_in-item d.segments n.0 s n.2)
 
+  -- no two trains start on one segment
   starts_differ : (t u s : ℕ) → StartsOn (network_of d) t s → StartsOn (network_of d) u s → t ≡ u
   starts_differ t u s a b =
       let p = first_name t s a in
@@ -247,6 +267,7 @@ module _ (d : Draft) (sound : IsSound d) where
       (λ h. ⊎_elim (λ l. absurd (sound.starts t u q.0 l (subst (IsRoutePlace d t 0) same p.1) q.1)) (λ l. absurd (sound.starts u t q.0 l q.1 (subst (IsRoutePlace d t 0) same p.1))) h)
       (cases_order t u)
 
+  -- so the whole is a network
   IsNetwork-sound : HasNames d → IsNetwork (network_of d)
   IsNetwork-sound names =
       record {
@@ -256,9 +277,12 @@ module _ (d : Draft) (sound : IsSound d) where
         segments = segments_right names;
         boxes = boxes_right names;
         trains = trains_right names;
-        segment_names = λ s s2 g g2 e f h. let p = mapped_item (segment_of d) d.segments s g e in let q = mapped_item (segment_of d) d.segments s2 g2 f in sound.segments.same s s2 q.0 (p.1 ∙ ap (λ (n : List ℕ). Some n) (ap (λ (w : Segment). w.name) p.2 ∙ h ∙ sym (ap (λ (w : Segment). w.name) q.2))) q.1;
-        box_names = λ b b2 x x2 e f h. let p = mapped_item (box_of d) d.boxes b x e in let q = mapped_item (box_of d) d.boxes b2 x2 f in sound.boxes.same b b2 q.0.name (item_mapped (λ (w : DraftBox). w.name) d.boxes b p.0 p.1 ∙ ap (λ (n : List ℕ). Some n) (ap (λ (w : SwitchBox). w.name) p.2 ∙ h ∙ sym (ap (λ (w : SwitchBox). w.name) q.2))) (item_mapped (λ (w : DraftBox). w.name) d.boxes b2 q.0 q.1);
-        train_names = λ t t2 r r2 e f h. let p = mapped_item (train_of d) d.trains t r e in let q = mapped_item (train_of d) d.trains t2 r2 f in sound.trains.same t t2 q.0.name (item_mapped (λ (w : DraftTrain). w.name) d.trains t p.0 p.1 ∙ ap (λ (n : List ℕ). Some n) (ap (λ (w : Train). w.name) p.2 ∙ h ∙ sym (ap (λ (w : Train). w.name) q.2))) (item_mapped (λ (w : DraftTrain). w.name) d.trains t2 q.0 q.1);
+        segment_names =
+            same_places (segment_of d) (λ (n : List ℕ). n) (λ (g : Segment). g.name) (λ n. refl) d.segments d.segments (λ k n e. e) sound.segments;
+        box_names =
+            same_places (box_of d) (λ (x : DraftBox). x.name) (λ (x : SwitchBox). x.name) (λ x. refl) d.boxes (box_names d) (item_mapped (λ (x : DraftBox). x.name) d.boxes) sound.boxes;
+        train_names =
+            same_places (train_of d) (λ (t : DraftTrain). t.name) (λ (r : Train). r.name) (λ t. refl) d.trains (train_names d) (item_mapped (λ (t : DraftTrain). t.name) d.trains) sound.trains;
         starts = starts_differ;
       }
 

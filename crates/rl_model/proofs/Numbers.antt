@@ -1,5 +1,5 @@
 -- Names become numbers: the first place at which a name stands.
-use Rattle.std.proofs.Common.{◌≡◌, ℕ, zero, suc, ◌+◌, ◌<◌, ◌≤◌, Bool, true, false, cond, List, [], ◌∷◌, take, slice_get, is_some, bytes_eq, Option, Some, None, option_map, ◌⊎◌, inl, inr, ⊎_elim, refl, sym, ap, ◌∙◌, subst, arith}
+use Rattle.std.proofs.Common.{◌≡◌, ℕ, zero, suc, ◌<◌, Bool, true, false, cond, List, [], ◌∷◌, take, slice_get, is_some, bytes_eq, Option, Some, None, option_map, ⊎_elim, refl, ap, ◌∙◌, subst}
 use Rattle.std.proofs.lemmas.Bool.{both_ways, cases_order}
 use Rattle.std.proofs.lemmas.Option.{none-some, same_Some}
 use Rattle.std.proofs.lemmas.Slice.Eq.{bytes_eq-Decides}
@@ -7,9 +7,11 @@ use Rattle.rl_model.specs.Drafts.{number_in}
 use Rattle.rl_model.specs.Refusals.{is_among, is_twice}
 use Rattle.rl_model.proofs.Lookups.{map_some, some_value, test_fails, item_before}
 
+-- texts that pass the test are the same
 pub same_from_bytes_eq : (a b : List ℕ) → bytes_eq a b ≡ true → a ≡ b
 same_from_bytes_eq a b = (bytes_eq-Decides a b).0
 
+-- and the same text passes it
 pub bytes_eq_from_same : (a b : List ℕ) → a ≡ b → bytes_eq a b ≡ true
 bytes_eq_from_same a b = (bytes_eq-Decides a b).1
 

@@ -1,12 +1,12 @@
 -- The search of a draft's refusals answers the plain sentence, and the plain sentence has one answer.
-use Rattle.std.proofs.Common.{◌≡◌, ℕ, ◌<◌, Bool, true, false, ltb, ◌&&◌, List, [], ◌∷◌, Option, Some, None, ◌⊎◌, inl, inr, ⊎_elim, refl, sym, ap, ap₂, ◌∙◌, subst, arith}
+use Rattle.std.proofs.Common.{◌≡◌, ℕ, ◌<◌, Bool, true, false, ltb, ◌&&◌, List, [], ◌∷◌, Option, Some, None, ◌⊎◌, inl, inr, refl, sym, ap, ap₂, ◌∙◌, subst, arith}
 use Rattle.std.proofs.lemmas.Bool.{both_ways, and_parts, ltb-true}
 use Rattle.std.specs.Option.{option_or, option_map}
 use Rattle.rl_base.specs.declared.place.Place.{Place}
 use Rattle.rl_base.specs.declared.draft.Draft.{Draft}
 use Rattle.rl_model.specs.Refusals.{Rule, Count, Twice, ArmCount, NoSegment, SameBox, Ends, At, RouteShape, RouteName, RouteFit, StartShared, number_of, breaks, first_place, first_of, first_refusal, Refusal, IsFirstRefusal, IsAccepted}
 use Rattle.rl_model.proofs.Search.{Finds, IsNoLater, IsNoLater-antisymmetric}
-use Rattle.rl_model.proofs.Places.{AnswersRule, each_rule}
+use Rattle.rl_model.proofs.Places.{each_rule}
 
 -- the rule is one of these
 abbrev IsIn : Rule → List Rule → Type 0
@@ -23,6 +23,7 @@ abbrev are_in_order : List Rule → Bool
 are_in_order [] = true
 are_in_order (r ∷ rules) = are_above (number_of r) rules && are_in_order rules
 
+-- one of these rules has a number above n
 above_at : (n : ℕ) (rules : List Rule) (rule : Rule) → are_above n rules ≡ true → IsIn rule rules → n < number_of rule
 above_at n [] rule e h = absurd h
 above_at n (r ∷ rules) rule e (inl h) =
@@ -72,6 +73,7 @@ first_of-answers d (rule ∷ rules) e =
 abbrev all_rules : List Rule
 all_rules = Count ∷ Twice ∷ ArmCount ∷ NoSegment ∷ SameBox ∷ Ends ∷ At ∷ RouteShape ∷ RouteName ∷ RouteFit ∷ StartShared ∷ []
 
+-- each rule is one of them
 is_rule : (rule : Rule) → IsIn rule all_rules
 is_rule Count = inl refl
 is_rule Twice = inr (inl refl)
@@ -89,11 +91,13 @@ is_rule StartShared = inr (inr (inr (inr (inr (inr (inr (inr (inr (inr (inl refl
 refusal_answers : (d : Draft) → Answers d all_rules (first_refusal d)
 refusal_answers d = first_of-answers d all_rules refl
 
+-- what is found is the first refusal
 pub first_refusal-some : (d : Draft) (r : Refusal) → first_refusal d ≡ Some r → IsFirstRefusal d r.rule r.place
 first_refusal-some d r e =
     let a : IsFirstBy d all_rules r = subst (λ (o : Option Refusal). Answers d all_rules o) e (refusal_answers d) in
     record { broken = a.broken; least = λ other q x. a.least other q (is_rule other) x }
 
+-- where nothing is found no rule is broken
 pub first_refusal-none : (d : Draft) → first_refusal d ≡ None → IsAccepted d
 first_refusal-none d e =
     let a : ((other : Rule) (q : Place) → IsIn other all_rules → breaks d other q ≡ false) = subst (λ (o : Option Refusal). Answers d all_rules o) e (refusal_answers d) in
@@ -115,6 +119,7 @@ found_by : (d : Draft) (r : Refusal) → IsFirstRefusal d r.rule r.place → (o 
 found_by d r a None e = absurd (both_ways (breaks d r.rule r.place) (first_refusal-none d e r.rule r.place) a.broken)
 found_by d r a (Some u) e = ap (λ (x : Refusal). Some x) (same_refusal d u r (first_refusal-some d u e) a)
 
+-- the first refusal is found
 pub first_refusal-found : (d : Draft) (r : Refusal) → IsFirstRefusal d r.rule r.place → first_refusal d ≡ Some r
 first_refusal-found d r a = found_by d r a (first_refusal d) refl
 
@@ -123,5 +128,6 @@ none_by : (d : Draft) → IsAccepted d → (o : Option Refusal) → first_refusa
 none_by d a None e = refl
 none_by d a (Some u) e = absurd (both_ways (breaks d u.rule u.place) (a u.rule u.place) (first_refusal-some d u e).broken)
 
+-- where no rule is broken nothing is found
 pub first_refusal-accepted : (d : Draft) → IsAccepted d → first_refusal d ≡ None
 first_refusal-accepted d a = none_by d a (first_refusal d) refl

@@ -1,5 +1,5 @@
 -- The names at the even places of a list, and the boxes that have a name.
-use Rattle.std.proofs.Common.{◌≡◌, ℕ, zero, suc, ◌+◌, ◌*◌, ◌%◌, ◌<◌, ◌≤◌, Bool, true, false, cond, List, [], ◌∷◌, length, map, drop, slice_get, find, bytes_eq, Option, Some, None, option_map, ◌⊎◌, inl, inr, refl, sym, ap, ◌∙◌, subst, arith}
+use Rattle.std.proofs.Common.{◌≡◌, ℕ, zero, suc, ◌+◌, ◌*◌, ◌≤◌, Bool, true, false, cond, List, [], ◌∷◌, length, map, drop, slice_get, find, bytes_eq, Some, option_map, refl, ◌∙◌, subst, arith}
 use Rattle.std.proofs.lemmas.Option.{none-some, same_Some}
 use Rattle.rl_base.specs.declared.draft.DraftBox.{DraftBox}
 use Rattle.rl_model.specs.Drafts.{number_in, every_other}
@@ -22,6 +22,7 @@ pub record IsHalf (n m : ℕ) : Type 0 where
   pub least : n ≤ 2 * m
   pub most : 2 * m ≤ n + 1
 
+-- of a list they are half
 pub length-every_other : (xs : List (List ℕ)) → IsHalf (length xs) (length (every_other xs))
 length-every_other [] = record { least = omega arith; most = omega arith }
 length-every_other (x ∷ []) = record { least = omega arith; most = omega arith }

@@ -16,6 +16,7 @@ is_no_later-same : (xs : List ℕ) → is_no_later xs xs ≡ true
 is_no_later-same [] = refl
 is_no_later-same (x ∷ xs) = or_right (ltb x x) _ (and_from (eqb x x) _ (eq-eqb x x refl) (is_no_later-same xs))
 
+-- a place is not after itself
 pub IsNoLater-same : (p : Place) → IsNoLater p p
 IsNoLater-same p = is_no_later-same (place_key p)
 
@@ -124,6 +125,7 @@ place_of (n ∷ i ∷ m ∷ j ∷ rest) =
     (cond (eqb m 13) (place.TrainItem i) (cond (eqb m 14) (place.TrainName i) (cond (eqb m 15) (place.TrainRoute i) (place.RouteItem i j))))
     (cond (eqb n 17) (place.ScheduleLine i) (place.ReportLine i))))))))))
 
+-- each place is the one that has its key
 place_of-key : (p : Place) → place_of (place_key p) ≡ p
 unfolding place_of
 place_of-key place.None = refl

@@ -13,11 +13,9 @@ pub fn first_refusals()
     ensures found { (d : Draft) (r : Refusal) → IsFirstRefusal d r.rule r.place → first_refusal d ≡ Some r }
     ensures accepted { (d : Draft) → first_refusal d ≡ None → IsAccepted d }
     ensures none { (d : Draft) → IsAccepted d → first_refusal d ≡ None }
-{
-}
+{}
 
 /// What an accepted draft gives is a network.
 pub fn accepted_networks()
     ensures network { (d : Draft) → HasNames d → first_refusal d ≡ None → IsNetwork (network_of d) }
-{
-}
+{}
