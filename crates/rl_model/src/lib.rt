@@ -10,6 +10,7 @@ pub mod examples;
 pub mod laws;
 pub mod moves;
 pub mod network;
+pub mod refusal_laws;
 pub mod report;
 
 pub use moves::{Move, Moves, Points};
@@ -17,4 +18,5 @@ pub use network::{
     BoxIds, NetworkPlan, SegIds, Segment, SegmentEnd, Segments, SwitchBox, SwitchBoxes, Train,
     Trains,
 };
+pub use refusal_laws::{accepted_networks, first_refusals};
 pub use report::{Fate, Outcome, Outcomes, Report};
