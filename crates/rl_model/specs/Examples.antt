@@ -7,12 +7,13 @@ use Rattle.rl_base.specs.declared.ids.TrainId.{TrainId}
 use Rattle.rl_base.specs.declared.kind.Kind.{Kind}
 use Rattle.rl_base.specs.declared.kind.Kind.TheVariants.{Buffer, Joint, Point}
 use Rattle.rl_base.specs.declared.kind.Side.{Side}
+use Rattle.rl_base.specs.declared.kind.Side.TheVariants.{Right}
 use Rattle.rl_base.specs.declared.draft.DraftBox.{DraftBox}
 use Rattle.rl_base.specs.declared.draft.DraftTrain.{DraftTrain}
 use Rattle.rl_base.specs.declared.draft.Draft.{Draft}
 use Rattle.rl_base.specs.declared.place.Place.{Place}
 use Rattle.rl_model.specs.declared.moves.Move.{Move}
-use Rattle.rl_model.specs.declared.moves.Move.TheVariants.{Reserve, Release, Lock, Unlock, Enter, Leave}
+use Rattle.rl_model.specs.declared.moves.Move.TheVariants.{Reserve, Release, Lock, Unlock, Throw, Settle, Enter, Leave, Refuse, Bar}
 use Rattle.rl_model.specs.declared.report.Fate.TheVariants.{Arrived}
 use Rattle.rl_model.specs.declared.report.Report.{Report}
 use Rattle.rl_model.specs.Refusals.{Rule, Refusal}
@@ -88,7 +89,28 @@ eight_moves =
     ∷ Release (train 0) (seg 0) (switch_box 0)
     ∷ []
 
--- what is reported of them
+-- one move of each form on the fork
+abbrev pub ten_moves : List Move
+ten_moves =
+    Reserve (train 0) (seg 2) (switch_box 1)
+    ∷ Release (train 0) (seg 2) (switch_box 1)
+    ∷ Lock (train 0) (switch_box 1) (seg 0) (seg 2)
+    ∷ Unlock (train 0) (switch_box 1)
+    ∷ Throw (switch_box 1)
+    ∷ Settle (switch_box 1) Right
+    ∷ Enter (train 0) (switch_box 1) (seg 0) (seg 2)
+    ∷ Leave (train 0) (seg 0)
+    ∷ Refuse (train 0) (seg 1) (switch_box 1) (train 0)
+    ∷ Bar (train 0) (switch_box 1) (train 0)
+    ∷ []
+
+-- their lines
+abbrev pub ten_lines : List ℕ
+ten_lines =
+    codes "reserve T1 R P\nrelease T1 R P\nlock T1 P S R\nunlock T1 P\nthrow P\nsettle P right\n"
+    ++ codes "enter T1 P S R\nleave T1 S\nrefuse T1 L P T1\nbar T1 P T1\n"
+
+-- what is reported of the eight moves
 abbrev pub one_step_report : Report
 one_step_report =
     record { tries = 100; moves = eight_moves; outcomes = record { fate = Arrived; made = 1; refused = 0 } ∷ [] }

@@ -56,7 +56,7 @@ EachLockedPath w b test answer = (u from to : ℕ) → w.locked b u from to ≡ 
 abbrev pub IsOff : World → ℕ → ℕ → Type 0
 IsOff w t b = (from to : ℕ) → w.across t b from to ≡ false
 
--- the guards of each move. The arguments are the move's own, in its order
+-- the guards of each move, over those of its arguments that they look at, in its order
 abbrev pub reserve_guards : NetworkPlan → World → ℕ → ℕ → Guards
 reserve_guards net w s b =
     guard 1 (IsTrue (has_end net s b)) (guard 2 (IsFree w s b) done)

@@ -30,7 +30,7 @@ made_in moves t = count_by (is_leave t) moves
 abbrev pub refused_in : List Move → ℕ → ℕ
 refused_in moves t = count_by (is_refusal t) moves
 
--- train t stands on one segment alone, holds it at both ends and nothing else, and has no lock
+-- train t isn't across a box, occupies a segment, holds that at both ends and nothing else, and has no lock
 pub record Rests (net : NetworkPlan) (w : World) (t : ℕ) : Type 0 where
   pub off : (b from to : ℕ) → w.across t b from to ≡ false
   pub segment : ℕ

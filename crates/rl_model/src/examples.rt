@@ -1,15 +1,16 @@
-ghost use Rattle.std.specs.Prelude.{◌≡◌, ℕ, true, false, [], ◌∷◌, replicate, codes, Some, None};
+ghost use Rattle.std.specs.Prelude.{◌≡◌, ℕ, true, false, [], ◌∷◌, replicate, codes, flat_map, Some, None};
 ghost use Rattle.rl_base.specs.declared.kind.Side.TheVariants.{Left, Right};
 ghost use Rattle.rl_base.specs.declared.place.Place.TheVariants as place;
-ghost use Rattle.rl_model.specs.Network.{connects, arm_of};
-ghost use Rattle.rl_model.specs.World.{start};
+ghost use Rattle.rl_model.specs.Network.{connects, IsNetwork};
+ghost use Rattle.rl_model.specs.World.{start, points_connect};
+ghost use Rattle.rl_model.specs.declared.moves.Points.TheVariants as points;
 ghost use Rattle.rl_model.specs.Moves.{guards, lock_guards, FirstFails};
 ghost use Rattle.rl_model.specs.Safety.{IsSafeRun, world_after};
 ghost use Rattle.rl_model.specs.Reports.{made_in, refused_in};
-ghost use Rattle.rl_model.specs.ReportText.{report_text};
+ghost use Rattle.rl_model.specs.ReportText.{report_text, move_line};
 ghost use Rattle.rl_model.specs.Drafts.{network_of};
 ghost use Rattle.rl_model.specs.Refusals.{first_refusal, Count, SameBox, Ends, RouteFit, StartShared, At};
-ghost use Rattle.rl_model.specs.Examples.{one_train, line, line_with, joint_arms, east, fork, draft_box, draft_train, refused, eight_moves, one_step_report, one_step_text};
+ghost use Rattle.rl_model.specs.Examples.{one_train, line, line_with, joint_arms, east, fork, draft_box, draft_train, refused, eight_moves, ten_moves, ten_lines, one_step_report, one_step_text};
 ghost use Rattle.rl_base.specs.declared.kind.Kind.TheVariants.{Buffer};
 
 /// The refusals at small drafts, worked out by hand.
@@ -35,10 +36,13 @@ pub fn run_of_examples()
     ensures left { connects (network_of (fork (Some Left) [])) 1 0 1 Left ≡ true }
     ensures not_right { connects (network_of (fork (Some Left) [])) 1 0 1 Right ≡ false }
     ensures never { connects (network_of (fork (Some Left) [])) 1 1 2 Right ≡ false }
+    ensures moving { points_connect (network_of (fork (Some Left) [])) 1 0 1 points.Moving ≡ false }
+    ensures network { IsNetwork (network_of one_train) }
     ensures safe { IsSafeRun (network_of one_train) eight_moves }
     ensures left_behind { (world_after (network_of one_train) eight_moves).occupies 0 0 ≡ false }
     ensures arrived { (world_after (network_of one_train) eight_moves).occupies 0 1 ≡ true }
     ensures made { made_in eight_moves 0 ≡ 1 }
     ensures refused { refused_in eight_moves 0 ≡ 0 }
+    ensures lines { flat_map (move_line (network_of (fork (Some Left) []))) ten_moves ≡ ten_lines }
     ensures text { report_text (network_of one_train) one_step_report ≡ one_step_text }
 {}
