@@ -1,2 +1,3 @@
+pub mod Draft
 pub mod Kind
 pub mod Name

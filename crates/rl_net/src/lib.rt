@@ -6,6 +6,13 @@
 //! trains that move, or what a box answers.
 #![tactic(auto)]
 
+mod arms;
+mod counts;
+mod names;
+mod ends;
 pub mod network;
+mod routes;
+mod sides;
+mod twice;
 
 pub use network::Network;

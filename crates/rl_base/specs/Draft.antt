@@ -1,0 +1,12 @@
+use Rattle.std.specs.Prelude.{IsTrue}
+use Rattle.std.specs.List.{list_all}
+use Rattle.rl_base.specs.Name.{is_name}
+use Rattle.rl_base.specs.declared.draft.Draft.{Draft}
+
+-- each text of the draft that should be a name is one
+pub record HasNames (d : Draft) : Type 0 where
+  pub segments : IsTrue (list_all is_name d.segments)
+  pub boxes : IsTrue (list_all (λ b. is_name b.name) d.boxes)
+  pub arms : IsTrue (list_all (λ b. list_all is_name b.arms) d.boxes)
+  pub trains : IsTrue (list_all (λ t. is_name t.name) d.trains)
+  pub routes : IsTrue (list_all (λ t. list_all is_name t.route) d.trains)
