@@ -1,3 +1,6 @@
+pub mod Alternate
+pub mod EndLists
 pub mod Few
 pub mod Numbers
+pub mod Passages
 pub mod Search

@@ -73,3 +73,56 @@ impl Ends {
         self.high.unwrap_or(FIRST_ARM)
     }
 }
+
+/// The ends with those of box `b`, whose arms these are, that name the segment.
+fn and_of_box(mut ends: Ends, b: usize, arms: &Names, name: &[u8]) -> Ends
+    requires few_boxes { b ≤ 128 }
+    requires few_arms { length arms.now ≤ 4 }
+    ensures { (es : List SegmentEnd) → ends ≡ ends_kept es → result ≡ ends_kept (es ++ ends_in_box b 0 arms.now name.now) }
+{
+    for i in 0..arms.len() {
+        if arms.at(i).bytes() == name {
+            ends = ends.and(SegmentEnd {
+                at: BoxId(b as u32),
+                arm: Arm(i as u32),
+            });
+        }
+    }
+    ends
+}
+
+/// The ends of the segment of that name.
+pub(crate) fn ends_named(draft: &Draft, name: &[u8]) -> Ends
+    requires items { HasFewItems draft.now }
+    requires arms { HasFewArms draft.now }
+    ensures { result ≡ ends_kept (ends_of draft.now name.now) }
+{
+    let mut ends = Ends::none();
+    for b in 0..draft.boxes.len() {
+        ends = and_of_box(ends, b, &draft.boxes.at(b).arms, name);
+    }
+    ends
+}
+
+fn is_wrongly_ended(draft: &Draft, i: usize) -> bool
+    requires items { HasFewItems draft.now }
+    requires arms { HasFewArms draft.now }
+    requires segment_in { i < length draft.now.segments }
+    ensures { result ≡ breaks draft.now rule.Ends (place.Segment i) }
+{
+    !ends_named(draft, draft.segments.at(i).bytes()).are_two()
+}
+
+/// The first segment that is named at a number of arms other than two.
+pub(crate) fn first_ends(draft: &Draft) -> Option<Place>
+    requires items { HasFewItems draft.now }
+    requires arms { HasFewArms draft.now }
+    ensures { result ≡ first_place draft.now rule.Ends }
+{
+    for i in 0..draft.segments.len() {
+        if is_wrongly_ended(draft, i) {
+            return Some(Place::Segment(i as u32));
+        }
+    }
+    None
+}

@@ -10,9 +10,12 @@ mod arms;
 mod counts;
 mod names;
 mod ends;
+mod fits;
 pub mod network;
+mod plan;
 mod routes;
 mod sides;
+mod starts;
 mod twice;
 
 pub use network::Network;
