@@ -1,4 +1,4 @@
-pub mod Alternate
+pub mod Growth
 pub mod EndLists
 pub mod Few
 pub mod Numbers
