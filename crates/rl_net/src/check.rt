@@ -1,8 +1,7 @@
-ghost use Rattle.std.specs.Prelude.{◌≡◌, ℕ, List, [], ◌∷◌, None, Some, option_map, IfOk, OnOk, IfErr, IfNone, MatchOption};
+ghost use Rattle.std.specs.Prelude.{◌≡◌, ◌↔◌, None, IfOk, OnOk, IfErr, IfNone, IfSome};
 ghost use Rattle.rl_base.specs.Draft.{HasNames};
 ghost use Rattle.rl_model.specs.Drafts.{network_of};
-ghost use Rattle.rl_model.specs.Refusals.{first_refusal, first_of};
-ghost use Rattle.rl_model.specs.Refusals as rule;
+ghost use Rattle.rl_model.specs.Refusals.{first_refusal};
 ghost use Rattle.rl_net.specs.NetRefusals.{IsRefusal};
 ghost use Rattle.rl_net.specs.Sizes.{HasFewItems, HasFewArms};
 
@@ -20,33 +19,10 @@ use crate::twice::first_twice;
 use rl_base::Draft;
 use std::alloc::Global;
 
-/// The first refusal of the trains of a draft, whose segments and boxes are in order.
-fn refusal_of_trains(draft: &Draft) -> Option<NetRefusal>
-    requires items { HasFewItems draft.now }
-    requires arms { HasFewArms draft.now }
-    ensures {
-        let first = first_of draft.now (rule.RouteShape ∷ rule.RouteName ∷ rule.RouteFit ∷ rule.StartShared ∷ []) in
-        MatchOption result (first ≡ None) (λ e. IsRefusal e first)
-    }
-{
-    if let Some(place) = first_route_shape(draft) {
-        return Some(NetRefusal::RouteShape(place));
-    }
-    if let Some(place) = first_route_name(draft) {
-        return Some(NetRefusal::RouteName(place));
-    }
-    if let Some(place) = first_route_fit(draft) {
-        return Some(NetRefusal::RouteFit(place));
-    }
-    first_start_shared(draft).map(NetRefusal::StartShared)
-}
-
-/// The first refusal of the segments and boxes of a draft, and of every count and name.
-fn refusal_of_track(draft: &Draft) -> Option<NetRefusal>
-    ensures refusal {
-        let first = first_of draft.now (rule.Count ∷ rule.Twice ∷ rule.ArmCount ∷ rule.NoSegment ∷ rule.SameBox ∷ rule.Ends ∷ rule.At ∷ []) in
-        MatchOption result (first ≡ None) (λ e. IsRefusal e first)
-    }
+/// The first refusal of a draft.
+fn refusal_of(draft: &Draft) -> Option<NetRefusal>
+    ensures accepted { result ≡ None ↔ (first_refusal draft.now ≡ None) }
+    ensures refused { IfSome result (λ e. IsRefusal e (first_refusal draft.now)) }
     ensures items { IfNone result (HasFewItems draft.now) }
     ensures arms { IfNone result (HasFewArms draft.now) }
 {
@@ -68,5 +44,33 @@ fn refusal_of_track(draft: &Draft) -> Option<NetRefusal>
     if let Some(place) = first_ends(draft) {
         return Some(NetRefusal::Ends(place));
     }
-    first_at(draft).map(NetRefusal::At)
+    if let Some(place) = first_at(draft) {
+        return Some(NetRefusal::At(place));
+    }
+    if let Some(place) = first_route_shape(draft) {
+        return Some(NetRefusal::RouteShape(place));
+    }
+    if let Some(place) = first_route_name(draft) {
+        return Some(NetRefusal::RouteName(place));
+    }
+    if let Some(place) = first_route_fit(draft) {
+        return Some(NetRefusal::RouteFit(place));
+    }
+    first_start_shared(draft).map(NetRefusal::StartShared)
+}
+
+/// The network of a draft, with segments, boxes and trains numbered by their places, or the first rule
+/// that the draft breaks and the first place at which it does. The draft is consumed. Apart from
+/// `NoMemory` the answer depends on nothing but the draft.
+pub fn check(alloc: Global, draft: Draft) -> Result<Network, NetRefusal>
+    requires names { HasNames draft }
+    ensures accepted { OnOk result (first_refusal draft ≡ None) }
+    ensures network { IfOk result (λ net. net ≡ network_of draft) }
+    ensures refused { IfErr result (λ e. IsRefusal e (first_refusal draft)) }
+{
+    if let Some(refusal) = refusal_of(&draft) {
+        return Err(refusal);
+    }
+    let plan = plan_of(alloc, &draft).map_err(|_| NetRefusal::NoMemory)?;
+    Ok(Network::from_plan(plan))
 }
