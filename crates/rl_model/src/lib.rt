@@ -8,6 +8,7 @@
 
 pub mod moves;
 pub mod network;
+pub mod refusal_laws;
 pub mod report;
 
 pub use moves::{Move, Moves, Points};
@@ -15,4 +16,5 @@ pub use network::{
     BoxIds, NetworkPlan, SegIds, Segment, SegmentEnd, Segments, SwitchBox, SwitchBoxes, Train,
     Trains,
 };
+pub use refusal_laws::{accepted_networks, first_refusals};
 pub use report::{Fate, Outcome, Outcomes, Report};
