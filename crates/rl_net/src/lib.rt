@@ -6,6 +6,19 @@
 //! trains that move, or what a box answers.
 #![tactic(auto)]
 
+mod arms;
+pub mod check;
+mod counts;
+mod names;
+mod ends;
+mod fits;
 pub mod network;
+mod plan;
+pub mod refusal;
+mod routes;
+mod sides;
+mod starts;
+mod twice;
 
 pub use network::Network;
+pub use refusal::NetRefusal;

@@ -1,0 +1,106 @@
+ghost use Rattle.std.specs.Prelude.{◌≡◌, ◌<◌, ◌≤◌, length, None};
+ghost use Rattle.rl_base.specs.declared.place.Place.TheVariants as place;
+ghost use Rattle.rl_model.specs.Refusals.{breaks, first_place, arms_at};
+ghost use Rattle.rl_model.specs.Refusals as rule;
+ghost use Rattle.rl_net.specs.Rows.{among_arms_of};
+ghost use Rattle.rl_net.specs.Sizes.{HasFewItems, HasFewArms};
+
+use crate::names::{is_named_twice, number_among};
+use rl_base::{Draft, Place, arm_count};
+
+fn has_wrong_arm_count(draft: &Draft, i: usize) -> bool
+    requires { i < length draft.now.boxes }
+    ensures { result ≡ breaks draft.now rule.ArmCount (place.BoxArms i) }
+{
+    let x = draft.boxes.at(i);
+    x.arms.len() != arm_count(x.kind) as usize
+}
+
+/// The first box that has not its kind's number of arms.
+pub(crate) fn first_arm_count(draft: &Draft) -> Option<Place>
+    requires { HasFewItems draft.now }
+    ensures place { result ≡ first_place draft.now rule.ArmCount }
+    ensures few { result ≡ None → HasFewArms draft.now }
+{
+    for i in 0..draft.boxes.len() {
+        if has_wrong_arm_count(draft, i) {
+            return Some(Place::BoxArms(i as u32));
+        }
+    }
+    None
+}
+
+fn is_no_segment(draft: &Draft, i: usize, j: usize) -> bool
+    requires box_in { i < length draft.now.boxes }
+    requires arm_in { j < arms_at draft.now i }
+    ensures { result ≡ breaks draft.now rule.NoSegment (place.BoxArm i j) }
+{
+    let arm = draft.boxes.at(i).arms.at(j);
+    number_among(&draft.segments, arm.bytes()).is_none()
+}
+
+/// The first arm of box `i` whose name is no segment.
+fn first_strange_arm(draft: &Draft, i: usize) -> Option<Place>
+    requires few { length draft.now.boxes ≤ 128 }
+    requires box_in { i < length draft.now.boxes }
+    requires arms { arms_at draft.now i ≤ 4 }
+    ensures { result ≡ among_arms_of draft.now rule.NoSegment i }
+{
+    for j in 0..draft.boxes.at(i).arms.len() {
+        if is_no_segment(draft, i, j) {
+            return Some(Place::BoxArm(i as u32, j as u32));
+        }
+    }
+    None
+}
+
+/// The first arm whose name is no segment.
+pub(crate) fn first_no_segment(draft: &Draft) -> Option<Place>
+    requires items { HasFewItems draft.now }
+    requires arms { HasFewArms draft.now }
+    ensures { result ≡ first_place draft.now rule.NoSegment }
+{
+    for i in 0..draft.boxes.len() {
+        if let Some(place) = first_strange_arm(draft, i) {
+            return Some(place);
+        }
+    }
+    None
+}
+
+fn is_repeated(draft: &Draft, i: usize, j: usize) -> bool
+    requires box_in { i < length draft.now.boxes }
+    requires arm_in { j < arms_at draft.now i }
+    ensures { result ≡ breaks draft.now rule.SameBox (place.BoxArm i j) }
+{
+    is_named_twice(draft.boxes.at(i).arms.as_slice(), j)
+}
+
+/// The first arm of box `i` that has the segment of an earlier arm.
+fn first_repeated_arm(draft: &Draft, i: usize) -> Option<Place>
+    requires few { length draft.now.boxes ≤ 128 }
+    requires box_in { i < length draft.now.boxes }
+    requires arms { arms_at draft.now i ≤ 4 }
+    ensures { result ≡ among_arms_of draft.now rule.SameBox i }
+{
+    for j in 0..draft.boxes.at(i).arms.len() {
+        if is_repeated(draft, i, j) {
+            return Some(Place::BoxArm(i as u32, j as u32));
+        }
+    }
+    None
+}
+
+/// The first arm that has the segment of an earlier arm of its box.
+pub(crate) fn first_same_box(draft: &Draft) -> Option<Place>
+    requires items { HasFewItems draft.now }
+    requires arms { HasFewArms draft.now }
+    ensures { result ≡ first_place draft.now rule.SameBox }
+{
+    for i in 0..draft.boxes.len() {
+        if let Some(place) = first_repeated_arm(draft, i) {
+            return Some(place);
+        }
+    }
+    None
+}

@@ -1,0 +1,76 @@
+ghost use Rattle.std.specs.Prelude.{◌≡◌, ◌↔◌, None, IfOk, OnOk, IfErr, IfNone, IfSome};
+ghost use Rattle.rl_base.specs.Draft.{HasNames};
+ghost use Rattle.rl_model.specs.Drafts.{network_of};
+ghost use Rattle.rl_model.specs.Refusals.{first_refusal};
+ghost use Rattle.rl_net.specs.NetRefusals.{IsRefusal};
+ghost use Rattle.rl_net.specs.Sizes.{HasFewItems, HasFewArms};
+
+use crate::arms::{first_arm_count, first_no_segment, first_same_box};
+use crate::counts::first_count;
+use crate::ends::first_ends;
+use crate::fits::first_route_fit;
+use crate::network::Network;
+use crate::plan::plan_of;
+use crate::refusal::NetRefusal;
+use crate::routes::{first_route_name, first_route_shape};
+use crate::sides::first_at;
+use crate::starts::first_start_shared;
+use crate::twice::first_twice;
+use rl_base::Draft;
+use std::alloc::Global;
+
+/// The first refusal of a draft.
+fn refusal_of(draft: &Draft) -> Option<NetRefusal>
+    ensures accepted { result ≡ None ↔ (first_refusal draft.now ≡ None) }
+    ensures refused { IfSome result (λ e. IsRefusal e (first_refusal draft.now)) }
+    ensures items { IfNone result (HasFewItems draft.now) }
+    ensures arms { IfNone result (HasFewArms draft.now) }
+{
+    if let Some(place) = first_count(draft) {
+        return Some(NetRefusal::Count(place));
+    }
+    if let Some(place) = first_twice(draft) {
+        return Some(NetRefusal::Twice(place));
+    }
+    if let Some(place) = first_arm_count(draft) {
+        return Some(NetRefusal::ArmCount(place));
+    }
+    if let Some(place) = first_no_segment(draft) {
+        return Some(NetRefusal::NoSegment(place));
+    }
+    if let Some(place) = first_same_box(draft) {
+        return Some(NetRefusal::SameBox(place));
+    }
+    if let Some(place) = first_ends(draft) {
+        return Some(NetRefusal::Ends(place));
+    }
+    if let Some(place) = first_at(draft) {
+        return Some(NetRefusal::At(place));
+    }
+    if let Some(place) = first_route_shape(draft) {
+        return Some(NetRefusal::RouteShape(place));
+    }
+    if let Some(place) = first_route_name(draft) {
+        return Some(NetRefusal::RouteName(place));
+    }
+    if let Some(place) = first_route_fit(draft) {
+        return Some(NetRefusal::RouteFit(place));
+    }
+    first_start_shared(draft).map(NetRefusal::StartShared)
+}
+
+/// The network of a draft, with segments, boxes and trains numbered by their places, or the first rule
+/// that the draft breaks and the first place at which it does. The draft is consumed. Apart from
+/// `NoMemory` the answer depends on nothing but the draft.
+pub fn check(alloc: Global, draft: Draft) -> Result<Network, NetRefusal>
+    requires names { HasNames draft }
+    ensures accepted { OnOk result (first_refusal draft ≡ None) }
+    ensures network { IfOk result (λ net. net ≡ network_of draft) }
+    ensures refused { IfErr result (λ e. IsRefusal e (first_refusal draft)) }
+{
+    if let Some(refusal) = refusal_of(&draft) {
+        return Err(refusal);
+    }
+    let plan = plan_of(alloc, &draft).map_err(|_| NetRefusal::NoMemory)?;
+    Ok(Network::from_plan(plan))
+}

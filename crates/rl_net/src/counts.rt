@@ -1,0 +1,48 @@
+ghost use Rattle.std.specs.Prelude.{◌≡◌, ◌<◌, ◌≤◌, length, None, IfNone};
+ghost use Rattle.rl_base.specs.declared.place.Place.TheVariants as place;
+ghost use Rattle.rl_model.specs.Refusals.{breaks, first_place, among_trains};
+ghost use Rattle.rl_model.specs.Refusals as rule;
+ghost use Rattle.rl_net.specs.Sizes.{HasFewItems};
+
+use rl_base::{Draft, Place};
+
+const MAX_SEGMENTS: usize = 256;
+const MAX_BOXES: usize = 128;
+const MAX_TRAINS: usize = 32;
+const MAX_ROUTE: usize = 129;
+
+fn is_route_too_long(draft: &Draft, i: usize) -> bool
+    requires { i < length draft.now.trains }
+    ensures { result ≡ breaks draft.now rule.Count (place.TrainRoute i) }
+{
+    draft.trains.at(i).route.len() > MAX_ROUTE
+}
+
+/// The first route that is too long.
+fn first_long_route(draft: &Draft) -> Option<Place>
+    requires { length draft.now.trains ≤ 32 }
+    ensures { result ≡ among_trains draft.now rule.Count place.TrainRoute }
+{
+    for i in 0..draft.trains.len() {
+        if is_route_too_long(draft, i) {
+            return Some(Place::TrainRoute(i as u32));
+        }
+    }
+    None
+}
+
+/// The first place that has too many segments, boxes, trains or route places.
+pub(crate) fn first_count(draft: &Draft) -> Option<Place>
+    ensures place { result ≡ first_place draft.now rule.Count }
+    ensures few { result ≡ None → HasFewItems draft.now }
+{
+    if draft.segments.len() > MAX_SEGMENTS {
+        Some(Place::Segments)
+    } else if draft.boxes.len() > MAX_BOXES {
+        Some(Place::Boxes)
+    } else if draft.trains.len() > MAX_TRAINS {
+        Some(Place::Trains)
+    } else {
+        first_long_route(draft)
+    }
+}

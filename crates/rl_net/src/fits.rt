@@ -1,0 +1,94 @@
+ghost use Rattle.std.specs.Prelude.{◌≡◌, ◌+◌, ◌-◌, ◌<◌, ◌≤◌, length, slice_get, option_map, option_and_then, IfSome};
+ghost use Rattle.rl_base.specs.declared.place.Place.TheVariants as place;
+ghost use Rattle.rl_model.specs.Drafts.{number_in};
+ghost use Rattle.rl_model.specs.Refusals.{breaks, first_place, route_length, connects_names, fits_at};
+ghost use Rattle.rl_model.specs.Refusals as rule;
+ghost use Rattle.rl_net.specs.Rows.{among_places_of};
+ghost use Rattle.rl_net.specs.Sizes.{HasFewItems, HasFewArms};
+
+use crate::names::{box_number_of, number_among};
+use rl_base::{Arm, Draft, DraftBox, Names, Place, Side, joins};
+
+/// The arm of the box that has the segment at place `k` of the route.
+fn arm_for(x: &DraftBox, route: &Names, k: usize) -> Option<Arm>
+    requires { length x.now.arms ≤ 4 }
+    ensures { option_map (λ a. a.0) result ≡ option_and_then (number_in x.now.arms) (slice_get route.now k) }
+{
+    if k >= route.len() {
+        return None;
+    }
+    match number_among(&x.arms, route.at(k).bytes()) {
+        Some(a) => Some(Arm(a as u32)),
+        None => None,
+    }
+}
+
+/// Whether at some side the box connects the segments before and after place `j` of the route.
+fn connects_at(x: &DraftBox, route: &Names, j: usize) -> bool
+    requires arms { length x.now.arms ≤ 4 }
+    requires places { length route.now ≤ 129 }
+    requires place_in { j < length route.now }
+    requires box_place { 0 < j }
+    ensures { result ≡ connects_names x.now (slice_get route.now (j - 1)) (slice_get route.now (j + 1)) }
+{
+    match (arm_for(x, route, j - 1), arm_for(x, route, j + 1)) {
+        (Some(a), Some(c)) => {
+            joins(x.kind, a, c, Side::Left) || joins(x.kind, a, c, Side::Right)
+        }
+        _ => false,
+    }
+}
+
+/// Whether the box at place `j` of the route connects the segments before and after it.
+fn fits(draft: &Draft, route: &Names, j: usize) -> bool
+    requires arms { HasFewArms draft.now }
+    requires places { length route.now ≤ 129 }
+    requires place_in { j < length route.now }
+    requires box_place { 0 < j }
+    ensures { result ≡ fits_at draft.now route.now j }
+{
+    match box_number_of(draft, route.at(j).bytes()) {
+        Some(b) => connects_at(draft.boxes.at(b), route, j),
+        None => false,
+    }
+}
+
+fn is_unfit(draft: &Draft, i: usize, j: usize) -> bool
+    requires arms { HasFewArms draft.now }
+    requires train_in { i < length draft.now.trains }
+    requires places { route_length draft.now i ≤ 129 }
+    requires place_in { j < route_length draft.now i }
+    ensures { result ≡ breaks draft.now rule.RouteFit (place.RouteItem i j) }
+{
+    j % 2 == 1 && !fits(draft, &draft.trains.at(i).route, j)
+}
+
+/// The first place of route `i` whose box connects no such segments.
+fn first_unfit_place(draft: &Draft, i: usize) -> Option<Place>
+    requires arms { HasFewArms draft.now }
+    requires few { length draft.now.trains ≤ 32 }
+    requires train_in { i < length draft.now.trains }
+    requires places { route_length draft.now i ≤ 129 }
+    ensures { result ≡ among_places_of draft.now rule.RouteFit i }
+{
+    for j in 0..draft.trains.at(i).route.len() {
+        if is_unfit(draft, i, j) {
+            return Some(Place::RouteItem(i as u32, j as u32));
+        }
+    }
+    None
+}
+
+/// The first route place whose box connects no such segments.
+pub(crate) fn first_route_fit(draft: &Draft) -> Option<Place>
+    requires items { HasFewItems draft.now }
+    requires arms { HasFewArms draft.now }
+    ensures { result ≡ first_place draft.now rule.RouteFit }
+{
+    for i in 0..draft.trains.len() {
+        if let Some(place) = first_unfit_place(draft, i) {
+            return Some(place);
+        }
+    }
+    None
+}
