@@ -35,14 +35,14 @@ of_document (Some m) = of_reading (draft_of m)
 unfoldable pub answer_to : List ℕ → Result Draft SyntaxRefusal
 answer_to text = if nat_lt 65536 (length text) then Err TooLong else of_document (document text)
 
--- the code answers this, unless memory ran out
-abbrev pub Refuses : SyntaxRefusal → Result Draft SyntaxRefusal → Type 0
-Refuses NoMemory answer = Unit {0}
-Refuses refusal answer = answer ≡ Err refusal
-
-abbrev pub Answers : Result Draft SyntaxRefusal → Result Draft SyntaxRefusal → Type 0
-Answers (Ok d) answer = answer ≡ Ok d
-Answers (Err refusal) answer = Refuses refusal answer
+-- the fact, unless the answer is that memory ran out
+abbrev pub UnlessMemory : Result Draft SyntaxRefusal → Type 0 → Type 0
+UnlessMemory (Ok d) P = P
+UnlessMemory (Err TooLong) P = P
+UnlessMemory (Err NotToml) P = P
+UnlessMemory (Err (Key p)) P = P
+UnlessMemory (Err (BadName p)) P = P
+UnlessMemory (Err NoMemory) P = Unit {0}
 
 -- the texts were tested, and this is the place of the first that is no name, if there is one
 abbrev pub RefusesName : SyntaxRefusal → Option Place → Type 0

@@ -22,11 +22,11 @@ pub record HasDraft (m : Members) (d : Draft) : Type 0 where
   pub keys : first (key_conditions m) ≡ None
   pub says : SaysDraft m d
 
--- what an answer says of the text
+-- what an answer says of the text. Nothing in a text makes memory run out
 abbrev pub Means : List ℕ → Result Draft SyntaxRefusal → Type 0
 Means text (Ok d) = (m : Members) × IsDocument text m × HasDraft m d × HasNames d
 Means text (Err TooLong) = 65536 < length text
 Means text (Err NotToml) = (length text ≤ 65536) × ((m : Members) → ¬ (IsDocument text m))
 Means text (Err (Key p)) = (m : Members) × IsDocument text m × (first (key_conditions m) ≡ Some p)
 Means text (Err (BadName p)) = (m : Members) × (d : Draft) × IsDocument text m × HasDraft m d × (first (name_conditions d) ≡ Some p)
-Means text (Err NoMemory) = Unit {0}
+Means text (Err NoMemory) = ⊥

@@ -12,6 +12,8 @@ mod network;
 mod read;
 mod refusal;
 mod table;
+#[cfg(test)]
+mod tests;
 mod trains;
 mod values;
 

@@ -1,7 +1,9 @@
-ghost use Rattle.std.specs.Prelude.{◌≡◌, ◌<◌, length, IfOk};
+ghost use Rattle.std.specs.Prelude.{◌≡◌, ◌<◌, length, IfOk, Result};
+ghost use Rattle.rl_base.specs.declared.draft.Draft.{Draft};
+ghost use Rattle.rl_syntax.specs.declared.refusal.SyntaxRefusal.{SyntaxRefusal};
 ghost use Rattle.rl_base.specs.Draft.{HasNames};
 ghost use Rattle.toml.specs.View.{table_view};
-ghost use Rattle.rl_syntax.specs.Answer.{document, answer_to, Answers, Parses};
+ghost use Rattle.rl_syntax.specs.Answer.{document, answer_to, UnlessMemory, Parses};
 ghost use Rattle.rl_syntax.specs.Meaning.{Means};
 
 use crate::named::test_draft;
@@ -32,7 +34,7 @@ fn document_of(alloc: Global, text: &[u8]) -> Result<Table, SyntaxRefusal>
 
 #[tactic(auto, unfolding(crate::specs::Answer::answer_to))]
 fn answer_of(alloc: Global, text: &[u8]) -> Result<Draft, SyntaxRefusal>
-    ensures answer { Answers result (answer_to text.now) }
+    ensures answer { UnlessMemory result (result ≡ answer_to text.now) }
     ensures too_long { 65536 < length text.now → result ≡ Err SyntaxRefusal.TooLong }
 {
     if text.len() > MAX_TEXT {
@@ -47,9 +49,11 @@ fn answer_of(alloc: Global, text: &[u8]) -> Result<Draft, SyntaxRefusal>
 /// Reads a network text: its draft, or the first refusal in the order of the variants of `SyntaxRefusal`.
 pub fn read_draft(alloc: Global, text: &[u8]) -> Result<Draft, SyntaxRefusal>
     // The one answer that the text has, unless memory runs out.
-    ensures answer { Answers result (answer_to text.now) }
+    ensures answer { UnlessMemory result (result ≡ answer_to text.now) }
     // What that answer says of the text: which condition holds first, or which draft stands there.
-    ensures meaning { Means text.now result }
+    ensures meaning { UnlessMemory result (Means text.now result) }
+    // No other answer says what is so of the text.
+    ensures exact { (other : Result Draft SyntaxRefusal) → Means text.now other → UnlessMemory result (result ≡ other) }
     // A text that is too long is refused before anything is read, whatever memory is left.
     ensures too_long { 65536 < length text.now → result ≡ Err SyntaxRefusal.TooLong }
     // Each text of a draft that should be a name is one.
