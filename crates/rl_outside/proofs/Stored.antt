@@ -25,10 +25,10 @@ bytes_under-set files name bytes i was here there =
     let test : StoredFile → Bool = λ f. bytes_eq f.name name in
     let at = position-Some test files i was here in
     let place : position_or_len test files ≡ i =
-        position_or_len_is test files i was (omega (arith, at.0)) at.2 (λ _. at.1) in
+    position_or_len_is test files i was (omega (arith, at.0)) at.2 (λ _. at.1) in
     let file : StoredFile = record { name = was.name; bytes = bytes } in
     let passes : test file ≡ true =
-        (bytes_eq-Decides was.name name).1 (name-at_position files name i was here there) in
+    (bytes_eq-Decides was.name name).1 (name-at_position files name i was here there) in
     ap (option_map (λ f. f.bytes)) (find-set test files i file (sym place) at.0 passes)
 
 -- and those under another name stay
@@ -39,11 +39,11 @@ pub bytes_under-set_other : (files : List StoredFile) (name bytes : List ℕ) (i
 bytes_under-set_other files name bytes i was here there n other =
     let test : StoredFile → Bool = λ f. bytes_eq f.name n in
     let differs : bytes_eq was.name n ≡ false =
-        rw (name-at_position files name i was here there) (bytes_eq-other n name other) in
+    rw (name-at_position files name i was here there) (bytes_eq-other n name other) in
     let old : test (get_or files i was) ≡ false =
-        subst (λ (f : StoredFile). bytes_eq f.name n ≡ false) there differs in
+    subst (λ (f : StoredFile). bytes_eq f.name n ≡ false) there differs in
     ap (option_map (λ f. f.bytes))
-        (find-set_other test files i (record { name = was.name; bytes = bytes }) was differs old)
+    (find-set_other test files i (record { name = was.name; bytes = bytes }) was differs old)
 
 -- after a push of a file with a new name, its bytes are those under the name
 pub bytes_under-push : (files : List StoredFile) (name : List ℕ) (file : StoredFile) →
@@ -53,7 +53,7 @@ bytes_under-push files name file named nowhere =
     let test : StoredFile → Bool = λ f. bytes_eq f.name name in
     let passes : test file ≡ true = (bytes_eq-Decides file.name name).1 named in
     let found : find test (files ++ file ∷ []) ≡ Some file =
-        find-append test files (file ∷ []) ∙ rw (find-nowhere test files nowhere, passes) refl in
+    find-append test files (file ∷ []) ∙ rw (find-nowhere test files nowhere, passes) refl in
     ap (option_map (λ f. f.bytes)) found
 
 -- one that found nothing more is what it was
@@ -68,5 +68,5 @@ bytes_under-push_other files name file named n other =
     let test : StoredFile → Bool = λ f. bytes_eq f.name n in
     let differs : test file ≡ false = rw named (bytes_eq-other n name other) in
     let found : find test (files ++ file ∷ []) ≡ find test files =
-        find-append test files (file ∷ []) ∙ rw differs (option_or-none (find test files)) in
+    find-append test files (file ∷ []) ∙ rw differs (option_or-none (find test files)) in
     ap (option_map (λ f. f.bytes)) found

@@ -87,7 +87,12 @@ fn read_whole<F: Read>(file: &mut F, alloc: Global, limit: usize) -> Result<Vec<
     }
 }
 
-fn read_file<R: std::rt::Files>(rt: &R, alloc: Global, name: &str, limit: usize) -> Result<Vec<u8>, Fetch>
+fn read_file<R: std::rt::Files>(
+    rt: &R,
+    alloc: Global,
+    name: &str,
+    limit: usize,
+) -> Result<Vec<u8>, Fetch>
     ensures within { IfOk result (λ bytes. length bytes.items ≤ limit) }
 {
     match fs::open(rt, name) {
@@ -98,6 +103,7 @@ fn read_file<R: std::rt::Files>(rt: &R, alloc: Global, name: &str, limit: usize)
 
 impl<R: std::rt::Files> Files for DirFiles<'_, R> {
     ghost held = { λ _ _. None };
+
     ghost faults = { times_in };
 
     /// Reads the file of this name to its end. Fails where std can't open or read it.

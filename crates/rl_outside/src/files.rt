@@ -43,6 +43,7 @@ impl From<NoMemory> for Fetch {
 /// the faults of each name. Contracts see a name as its bytes.
 pub trait Files {
     ghost held: { Self → List ℕ → Option (List ℕ) };
+
     ghost faults: { Self → List ℕ → ℕ };
 
     /// Fetches the whole file under the name, of at most `limit` bytes.

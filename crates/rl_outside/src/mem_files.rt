@@ -44,7 +44,12 @@ fn place_of(files: &[StoredFile], name: &str) -> Option<usize>
 }
 
 /// Puts the bytes under the name, in place of those that were there.
-fn store(alloc: Global, files: &mut Vec<StoredFile>, name: &str, bytes: &[u8]) -> Result<(), NoMemory>
+fn store(
+    alloc: Global,
+    files: &mut Vec<StoredFile>,
+    name: &str,
+    bytes: &[u8],
+) -> Result<(), NoMemory>
     ensures there { OnOk result (bytes_under files.new.items name.now ≡ Some bytes.now) }
     ensures others { (n : List ℕ) → n ≢ name.now → bytes_under files.new.items n ≡ bytes_under files.old.items n }
     ensures refused { OnErr result (files.new.items ≡ files.old.items) }
@@ -74,7 +79,12 @@ fn bytes_of<'a>(files: &'a [StoredFile], name: &str) -> Option<&'a Sequence<u8>>
 }
 
 /// Copies the bytes under the name, where there are at most `limit`.
-fn read_within(alloc: Global, files: &[StoredFile], name: &str, limit: usize) -> Result<Vec<u8>, Fetch>
+fn read_within(
+    alloc: Global,
+    files: &[StoredFile],
+    name: &str,
+    limit: usize,
+) -> Result<Vec<u8>, Fetch>
     ensures ok { IfOk result (λ bytes. read_within limit (bytes_under files.now name.now) ≡ Ok bytes.items) }
     ensures err { IfErr result (λ e. e ≢ Fetch.NoMemory → read_within limit (bytes_under files.now name.now) ≡ Err e) }
 {
@@ -129,6 +139,7 @@ impl MemFiles {
 
 impl Files for MemFiles {
     ghost held = { λ m. bytes_under m.files };
+
     ghost faults = { λ m. times_in m.failed };
 
     /// Each fetch is counted, whatever it answers. A failing number comes before all else, then a name

@@ -70,7 +70,9 @@ impl MemSink {
 
 impl Sink for MemSink {
     ghost written = { λ sink. Some sink.bytes };
+
     ghost faults = { faults_of };
+
     ghost bounded = { λ sink. Prim.omega arith };
 
     /// Takes the least of the piece's length, what one put takes at most, and the room left. Fails where

@@ -10,6 +10,7 @@ pub struct SinkFault;
 /// the faults, up to the greatest u64.
 pub trait Sink {
     ghost written: { Self → Option (List ℕ) };
+
     ghost faults: { Self → ℕ };
 
     /// Takes the first bytes of the piece, at least one, and answers how many.

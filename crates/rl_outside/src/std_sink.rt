@@ -35,7 +35,9 @@ impl<'a, R: Print> StdSink<'a, R> {
 
 impl<R: Print> Sink for StdSink<'_, R> {
     ghost written = { λ _. None };
+
     ghost faults = { λ count. min count (2 ^ 64 - 1) };
+
     ghost bounded = { λ count. Prim.omega arith };
 
     /// Writes once. A write that takes no byte counts as a fault.

@@ -8,7 +8,7 @@ pub returns-in-Some-clause-there : goal.returns-in-Some-clause-there
 returns-in-Some-clause-there c =
     let here : position (λ f. bytes_eq f.name c.args.name.now) c.args.files.now.items ≡ Some c.in-Some.i = cc in
     bytes_under-set _ _ _ _ _ here c.index_mut.ensures.value
-        ∙ ap Some (c.from_vec-bytes.ensures ∙ c.in_ok-from_slice.ensures.items)
+    ∙ ap Some (c.from_vec-bytes.ensures ∙ c.in_ok-from_slice.ensures.items)
 
 pub returns-in-Some-clause-others : goal.returns-in-Some-clause-others
 returns-in-Some-clause-others c =
@@ -19,8 +19,8 @@ pub returns-in_ok-push-in-None-clause-there : goal.returns-in_ok-push-in-None-cl
 returns-in_ok-push-in-None-clause-there c =
     let nowhere : position (λ f. bytes_eq f.name c.args.name.now) c.args.files.now.items ≡ None = cc in
     rw c.in_ok-push-in-None.ensures.items
-        (bytes_under-push _ _ _ c.in_ok-name-in-None.ensures nowhere
-            ∙ ap Some (c.from_vec-bytes.ensures ∙ c.in_ok-from_slice.ensures.items))
+    (bytes_under-push _ _ _ c.in_ok-name-in-None.ensures nowhere
+    ∙ ap Some (c.from_vec-bytes.ensures ∙ c.in_ok-from_slice.ensures.items))
 
 pub returns-in_ok-push-in-None-clause-others : goal.returns-in_ok-push-in-None-clause-others
 returns-in_ok-push-in-None-clause-others c =

@@ -4,11 +4,11 @@ use Rattle.rl_outside.proofs.dir_files.DirFilesFiles.TheImpl.Goals as goal
 
 pub fetch-tells : goal.fetch-tells
 fetch-tells g c = record {
-    within = search rules;
-    told = grind arith;
-    failed = search rules;
-    too_long = grind arith;
-    files_stay = λ n. refl;
-    later = λ n. rw c.ensures.after (times_in-failed_after c.result c.args.self.now c.args.name.now n);
-    others = search rules
-  }
+  within = search rules;
+  told = grind arith;
+  failed = search rules;
+  too_long = grind arith;
+  files_stay = λ n. refl;
+  later = λ n. rw c.ensures.after (times_in-failed_after c.result c.args.self.now c.args.name.now n);
+  others = search rules;
+}

@@ -3,10 +3,10 @@ use Rattle.rl_outside.proofs.std_sink.StdSinkSink.TheImpl.Goals as goal
 
 pub put-tells : goal.put-tells
 put-tells g c = record {
-    some = grind arith;
-    within = grind arith;
-    grows = grind arith;
-    stays = grind arith;
-    cause = grind arith;
-    later = grind arith
-  }
+  some = grind arith;
+  within = grind arith;
+  grows = grind arith;
+  stays = grind arith;
+  cause = grind arith;
+  later = grind arith;
+}
