@@ -1,4 +1,4 @@
-ghost use Rattle.std.specs.Prelude.{◌≡◌, ◌↔◌, None, IfOk, OnOk, IfErr, IfNone, IfSome};
+ghost use Rattle.std.specs.Prelude.{◌≡◌, None, IfOk, OnOk, IfErr, IfNone, IfSome};
 ghost use Rattle.rl_base.specs.Draft.{HasNames};
 ghost use Rattle.rl_model.specs.Drafts.{network_of};
 ghost use Rattle.rl_model.specs.Refusals.{first_refusal};
@@ -17,11 +17,12 @@ use crate::sides::first_at;
 use crate::starts::first_start_shared;
 use crate::twice::first_twice;
 use rl_base::Draft;
+use rl_model::accepted_networks;
 use std::alloc::Global;
 
 /// The first refusal of a draft.
 fn refusal_of(draft: &Draft) -> Option<NetRefusal>
-    ensures accepted { result ≡ None ↔ (first_refusal draft.now ≡ None) }
+    ensures accepted { IfNone result (first_refusal draft.now ≡ None) }
     ensures refused { IfSome result (λ e. IsRefusal e (first_refusal draft.now)) }
     ensures items { IfNone result (HasFewItems draft.now) }
     ensures arms { IfNone result (HasFewArms draft.now) }
@@ -68,9 +69,12 @@ pub fn check(alloc: Global, draft: Draft) -> Result<Network, NetRefusal>
     ensures network { IfOk result (λ net. net ≡ network_of draft) }
     ensures refused { IfErr result (λ e. IsRefusal e (first_refusal draft)) }
 {
-    if let Some(refusal) = refusal_of(&draft) {
-        return Err(refusal);
+    match refusal_of(&draft) {
+        Some(refusal) => Err(refusal),
+        None => {
+            let plan = plan_of(alloc, &draft)?;
+            accepted_networks();
+            Ok(Network::from_plan(plan))
+        }
     }
-    let plan = plan_of(alloc, &draft).map_err(|_| NetRefusal::NoMemory)?;
-    Ok(Network::from_plan(plan))
 }

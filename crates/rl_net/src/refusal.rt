@@ -1,4 +1,7 @@
-use rl_base::Place;
+ghost use Rattle.std.specs.Prelude.{◌≡◌};
+ghost use Rattle.rl_net.specs.declared.refusal.NetRefusal.TheVariants as refusal;
+
+use rl_base::{NoMemory, Place};
 use thiserror::Error;
 
 /// Why a draft is no network: the rule that it breaks and where, or want of memory. The rules are
@@ -41,4 +44,12 @@ pub enum NetRefusal {
     /// Memory ran out. It may stand in the place of every other answer.
     #[error("out of memory")]
     NoMemory,
+}
+
+impl From<NoMemory> for NetRefusal {
+    ghost from_gives = { λ _ e. e ≡ refusal.NoMemory };
+
+    fn from(_error: NoMemory) -> NetRefusal {
+        NetRefusal::NoMemory
+    }
 }

@@ -1,0 +1,10 @@
+use Rattle.std.proofs.Common.{◌≡◌, arith}
+use Rattle.std.proofs.lemmas.Grind.{common_steps}
+use Rattle.rl_model.specs.Drafts.{network_of}
+use Rattle.rl_model.specs.Network.{IsNetwork}
+use Rattle.rl_net.proofs.check.check.Goals as goal
+
+pub from_plan-requires : goal.from_plan-requires
+from_plan-requires c =
+    let law = c.accepted_networks.ensures.network c.args.draft c.requires.names c.in-None.ensures.accepted in
+    rw c.in_ok-plan-in-None.ensures law
