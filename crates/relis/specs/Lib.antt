@@ -3,3 +3,4 @@ pub mod Judged
 pub mod Lines
 pub mod Meaning
 pub mod Written
+pub mod Refusals

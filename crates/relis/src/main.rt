@@ -1,6 +1,7 @@
 //! The program: the words of a command line, the files that they name, and what is printed.
 #![tactic(auto)]
 
+mod judge;
 mod lines;
 mod orders;
 mod status;
