@@ -4,3 +4,4 @@ pub mod Lines
 pub mod Meaning
 pub mod Written
 pub mod Refusals
+pub mod Decisions

@@ -6,6 +6,7 @@ use Rattle.rl_model.specs.Reports.{IsReportOf, IsRightReport}
 use Rattle.rl_model.specs.ReportText.{report_text}
 use Rattle.rl_direct.specs.Direct.{IsDirectReport}
 use Rattle.rl_outside.specs.Sink.{grown, GrownByPart}
+use Rattle.rl_outside.specs.Causes.{Rose}
 use Rattle.relis.specs.Orders.{Order, order_of, net_of, Check, Drive}
 use Rattle.relis.specs.Judged.{refused_as, judged}
 use Rattle.relis.specs.Lines.{usage_line, read_fault_line, refused_line, accepted_line}
@@ -53,3 +54,25 @@ abbrev pub IsWritten : List (List ℕ) → (List ℕ → Option (List ℕ)) → 
 IsWritten words held before now status.NoMemory = now ≡ before
 IsWritten words held before now status.WriteFault = (answer : Status) × (text : List ℕ) × LeadsTo words held answer text × GrownByPart before now text
 IsWritten words held before now answer = (text : List ℕ) × LeadsTo words held answer text × (now ≡ grown before text)
+
+-- the answer to a network text, where nothing fails
+abbrev pub answer_on : Result NetworkPlan Refused → Status
+answer_on (Ok net) = status.Done
+answer_on (Err r) = status.Refused r.number r.place
+
+-- the answer to an order, where nothing fails and the files tell its network
+abbrev pub answer_for : (List ℕ → Option (List ℕ)) → Option Order → Option Status
+answer_for held None = Some status.Usage
+answer_for held (Some order) = option_map (λ bytes. answer_on (judged bytes)) (held (net_of order))
+
+-- the answer to the words, where nothing fails and the files tell the network that they name
+abbrev pub expected : List (List ℕ) → (List ℕ → Option (List ℕ)) → Option Status
+expected words held = answer_for held (order_of words)
+
+-- the words name this file
+abbrev pub IsNamed : List (List ℕ) → List ℕ → Type 0
+IsNamed words name = (order : Order) × (order_of words ≡ Some order) × (name ≡ net_of order)
+
+-- the count of faults of the file that the words name rose
+abbrev pub NamedRose : List (List ℕ) → (List ℕ → ℕ) → (List ℕ → ℕ) → Type 0
+NamedRose words before now = (name : List ℕ) × IsNamed words name × Rose (before name) (now name)

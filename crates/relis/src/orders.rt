@@ -1,6 +1,6 @@
 ghost use Rattle.std.specs.Prelude.{◌≡◌, option_map};
-ghost use Rattle.relis.specs.Orders.{order_of, is_positional, drive_order, check_order};
 ghost use Rattle.relis.specs.Written.{order_as};
+ghost use Rattle.relis.specs.Orders.{order_of, net_of, is_positional, drive_order, check_order};
 
 use rl_base::Args;
 use rl_text::read_number;
@@ -13,6 +13,18 @@ const MAX_ROUNDS: u64 = 1_000_000;
 pub enum Order<'a> {
     Check { net: &'a str },
     Drive { net: &'a str, rounds: u32 },
+}
+
+impl<'a> Order<'a> {
+    /// The name of the network text.
+    pub fn net(self) -> &'a str
+        ensures { result.now ≡ net_of (order_as self.entry) }
+    {
+        match self {
+            Order::Check { net } => net,
+            Order::Drive { net, .. } => net,
+        }
+    }
 }
 
 fn is_positional(word: &str) -> bool
