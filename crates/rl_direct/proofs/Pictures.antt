@@ -21,18 +21,18 @@ after_far ends w t waits from b to far back two p =
     record { occupies = p.occupies; across = p.across; holds = λ s x. grind (arith, nat_tests, p.holds s x, two x); locked = p.locked }
 
 -- it gets the lock
-pub after_lock : (ends : ℕ → ℕ → Bool) (w : World) (t : ℕ) (from b to back : ℕ) → Pictures ends w t Lock false from b to back → Pictures ends (lock w t b from to) t Pass false from b to back
-after_lock ends w t from b to back p =
-    record { occupies = λ s. grind (arith, nat_tests, p.occupies s); across = p.across; holds = p.holds; locked = λ x f g. grind (arith, nat_tests, p.locked x f g) }
+pub after_lock : (ends : ℕ → ℕ → Bool) (w : World) (t : ℕ) (waits : Bool) (from b to back : ℕ) → waits ≡ false → Pictures ends w t Lock waits from b to back → Pictures ends (lock w t b from to) t Pass waits from b to back
+after_lock ends w t waits from b to back off p =
+    record { occupies = λ s. grind (arith, nat_tests, p.occupies s); across = λ x f g. grind (arith, nat_tests, p.across x f g); holds = p.holds; locked = λ x f g. grind (arith, nat_tests, p.locked x f g) }
 
 -- its head enters the next segment
-pub after_enter : (ends : ℕ → ℕ → Bool) (w : World) (t : ℕ) (from b to back : ℕ) → Pictures ends w t Pass false from b to back → Pictures ends (enter w t b from to) t Pass true from b to back
-after_enter ends w t from b to back p =
+pub after_enter : (ends : ℕ → ℕ → Bool) (w : World) (t : ℕ) (waits : Bool) (from b to back : ℕ) → waits ≡ false → Pictures ends w t Pass waits from b to back → Pictures ends (enter w t b from to) t Pass true from b to back
+after_enter ends w t waits from b to back off p =
     record { occupies = λ s. grind (arith, nat_tests, p.occupies s); across = λ x f g. grind (arith, nat_tests, p.across x f g); holds = p.holds; locked = p.locked }
 
 -- its tail leaves the segment behind
-pub after_leave : (ends : ℕ → ℕ → Bool) (w : World) (t : ℕ) (from b to back : ℕ) → from ≢ to → Pictures ends w t Pass true from b to back → Pictures ends (leave w t from) t Unlock false from b to back
-after_leave ends w t from b to back apart p =
+pub after_leave : (ends : ℕ → ℕ → Bool) (w : World) (t : ℕ) (waits : Bool) (from b to back : ℕ) → from ≢ to → waits ≡ true → Pictures ends w t Pass waits from b to back → Pictures ends (leave w t from) t Unlock false from b to back
+after_leave ends w t waits from b to back apart on p =
     record { occupies = λ s. grind (arith, nat_tests, p.occupies s); across = λ x f g. grind (arith, nat_tests, p.across x f g); holds = p.holds; locked = p.locked }
 
 -- it gives the lock back
