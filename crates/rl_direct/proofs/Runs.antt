@@ -111,3 +111,31 @@ stands net tries network round t ms w minds (moving r u xs v ys mind next m befo
     let old = stands net tries network r u xs v ys before in
     stands_after net tries xs v ys u mind next m network old there (sound_turn net tries xs v u mind m next network old.kept (old.each u mind there) rest turn)
 stands net tries network round t ms w minds (next_round r xs v ys before) = stands net tries network r (length net.trains) xs v ys before
+
+-- what a turn reaches, whatever the network
+pub record IsReached (net : NetworkPlan) (t : ℕ) (ms : List Move) (w : World) (minds : List TrainMind) : Type 0 where
+  pub trains : length minds ≡ length net.trains
+  pub world : w ≡ world_after net ms
+  pub place : t ≤ length net.trains
+
+pub reached : (net : NetworkPlan) (tries round t : ℕ) (ms : List Move) (w : World) (minds : List TrainMind) → Driven net tries round t ms w minds → IsReached net t ms w minds
+reached net tries round t ms w minds at_start = record { trains = length-replicate (length net.trains) (start_mind tries); world = refl; place = omega arith }
+reached net tries round t ms w minds (resting r u xs v ys mind before there rest) =
+    let old = reached net tries r u xs v ys before in
+    record { trains = old.trains; world = old.world; place = let total = old.trains in let within = slice_get_within ys u mind there in omega arith }
+reached net tries round t ms w minds (moving r u xs v ys mind next m before there rest turn) =
+    let old = reached net tries r u xs v ys before in
+    record {
+      trains = length-set ys u next ∙ old.trains;
+      world = ap (λ x. after x m) old.world ∙ sym (fold-append after (start net) xs (m ∷ []));
+      place = let total = old.trains in let within = slice_get_within ys u mind there in omega arith;
+    }
+reached net tries round t ms w minds (next_round r xs v ys before) =
+    let old = reached net tries r (length net.trains) xs v ys before in
+    record { trains = old.trains; world = old.world; place = omega arith }
+
+-- the move of a turn is guarded
+pub turn_guarded : (net : NetworkPlan) (tries round t : ℕ) (ms : List Move) (w : World) (minds : List TrainMind) (mind next : TrainMind) (m : Move) → IsNetwork net → Driven net tries round t ms w minds → slice_get minds t ≡ Some mind → rests net t mind ≡ false → IsTurn net w t mind m next → AllHold (guards net w m)
+turn_guarded net tries round t ms w minds mind next m network driven there rest turn =
+    let old = stands net tries network round t ms w minds driven in
+    (sound_turn net tries ms w t mind m next network old.kept (old.each t mind there) rest turn).guarded

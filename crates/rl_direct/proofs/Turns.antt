@@ -28,7 +28,7 @@ use Rattle.rl_direct.proofs.Pictures.{after_near, after_far, after_lock, after_e
 use Rattle.rl_direct.proofs.Others.{IsAside, aside_reserve, aside_release, aside_lock, aside_unlock, aside_enter, aside_leave, aside_throw, aside_settle, aside_refuse, aside_bar, count_not, count_more}
 
 -- a mind agrees with its job named
-at_job : (net : NetworkPlan) (tries : ℕ) (ms : List Move) (w : World) (t : ℕ) (mind : TrainMind) (job : Job) → mind.job ≡ job → Agrees net tries ms w t mind → Agrees net tries ms w t (record mind { job = job })
+pub at_job : (net : NetworkPlan) (tries : ℕ) (ms : List Move) (w : World) (t : ℕ) (mind : TrainMind) (job : Job) → mind.job ≡ job → Agrees net tries ms w t mind → Agrees net tries ms w t (record mind { job = job })
 at_job net tries ms w t mind job e old = subst (λ j. Agrees net tries ms w t (record mind { job = j })) e old
 
 -- after a move that isn't counted, at the same step
