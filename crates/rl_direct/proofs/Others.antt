@@ -1,22 +1,19 @@
 -- A train's move changes nothing of another train: not its part of the world, and not what is counted of it.
-use Rattle.std.proofs.Common.{◌≡◌, ℕ, ◌+◌, ◌≢◌, ◌==◌, ◌&&◌, ◌||◌, Bool, true, false, cond, List, [], ◌∷◌, ◌++◌, refl, sym, ap, ◌∙◌, arith}
+use Rattle.std.proofs.Common.{◌≡◌, ℕ, ◌+◌, ◌≢◌, Bool, true, false, cond, List, [], ◌∷◌, ◌++◌, refl, ap, ◌∙◌, arith}
 use Rattle.std.specs.Prelude.{count_by}
-use Rattle.std.specs.List.{sum_by}
-use Rattle.std.proofs.lemmas.Bool.{ne_eqb}
 use Rattle.std.proofs.lemmas.Bool.Decides.{nat_tests}
 use Rattle.std.proofs.lemmas.List.Sums.{sum_by-append}
 use Rattle.rl_base.specs.declared.kind.Side.{Side}
 use Rattle.rl_model.specs.declared.moves.Move.{Move}
 use Rattle.rl_model.specs.declared.moves.Move.TheVariants as moves
 use Rattle.rl_model.specs.declared.network.NetworkPlan.{NetworkPlan}
-use Rattle.rl_model.specs.Network.{has_end}
 use Rattle.rl_model.specs.World.{World}
 use Rattle.rl_model.specs.Moves.{after, reserve, release, lock, unlock, enter, leave}
 use Rattle.rl_model.specs.Safety.{IsKept}
-use Rattle.rl_model.specs.Reports.{is_leave, is_refusal, made_in, refused_in}
+use Rattle.rl_model.specs.Reports.{is_leave, is_refusal}
 use Rattle.rl_direct.specs.declared.mind.TrainMind.{TrainMind}
 use Rattle.rl_direct.specs.Direct.{seg, switch_box, train}
-use Rattle.rl_direct.specs.Agreement.{Pictures, Agrees}
+use Rattle.rl_direct.specs.Agreement.{Agrees}
 
 -- the worlds agree on train u, and the move isn't counted of it
 pub record IsAside (w w2 : World) (m : Move) (u : ℕ) : Type 0 where

@@ -1,14 +1,13 @@
 -- The outcomes by the minds are right: where each train is in the end, and what its numbers add up to.
-use Rattle.std.proofs.Common.{◌≡◌, ℕ, ◌+◌, ◌<◌, ◌≤◌, ◌==◌, ◌&&◌, ◌||◌, Bool, true, false, cond, subst, List, length, slice_get, Some, refl, sym, ap, ◌∙◌, ⊎_elim, arith}
+use Rattle.std.proofs.Common.{◌≡◌, ℕ, ◌+◌, ◌≤◌, ◌==◌, ◌||◌, true, cond, subst, List, refl, sym, ◌∙◌, ⊎_elim, arith}
 use Rattle.std.proofs.lemmas.Bool.{and_parts, or_cases, cond_both, eqb-true, eqb-false, eq-eqb, false≢true}
 use Rattle.std.proofs.lemmas.Option.{same_Some, slice_get_within}
 use Rattle.rl_model.specs.declared.moves.Move.{Move}
 use Rattle.rl_model.specs.declared.network.NetworkPlan.{NetworkPlan}
 use Rattle.rl_model.specs.declared.report.Fate.{Fate}
 use Rattle.rl_model.specs.declared.report.Fate.TheVariants.{Arrived, Spent, Underway}
-use Rattle.rl_model.specs.declared.report.Outcome.{Outcome}
 use Rattle.rl_model.specs.declared.report.Report.{Report}
-use Rattle.rl_model.specs.Network.{has_end, steps_of, IsNetwork}
+use Rattle.rl_model.specs.Network.{steps_of, IsNetwork}
 use Rattle.rl_model.specs.World.{World}
 use Rattle.rl_model.specs.Safety.{world_after}
 use Rattle.rl_model.specs.Reports.{made_in, refused_in, Rests, FateFits, IsRightOutcome, IsRightReport}
@@ -19,7 +18,7 @@ use Rattle.rl_direct.specs.declared.mind.TrainMind.{TrainMind}
 use Rattle.rl_direct.specs.Direct.{from_of, is_near, rests, fate_of, outcome_of, IsDirectReport}
 use Rattle.rl_direct.specs.Agreement.{Agrees, passed_in, open_in}
 use Rattle.rl_direct.proofs.Steps.{there}
-use Rattle.rl_direct.proofs.Turns.{at_job}
+use Rattle.rl_direct.proofs.Minds.{at_job}
 use Rattle.rl_direct.proofs.Runs.{stands}
 
 -- a job that passes the test is Near
@@ -106,6 +105,6 @@ right_report net tries rounds report network direct =
             made = refl;
             refused = refl;
             fate = subst (λ n. FateFits net n (world_after net report.moves) t (made_in report.moves t) (refused_in report.moves t) (fate_of net t found.0)) (sym direct.tries_are)
-            (subst (λ x. FateFits net tries x t (made_in report.moves t) (refused_in report.moves t) (fate_of net t found.0)) after.world (fate_fits net tries report.moves direct.world t found.0 (after.each t found.0 found.1)));
+                (subst (λ x. FateFits net tries x t (made_in report.moves t) (refused_in report.moves t) (fate_of net t found.0)) after.world (fate_fits net tries report.moves direct.world t found.0 (after.each t found.0 found.1)));
           });
     }

@@ -1,5 +1,5 @@
 -- What a train's picture is after each of its moves.
-use Rattle.std.proofs.Common.{◌≡◌, ℕ, ◌≢◌, ◌==◌, ◌&&◌, ◌||◌, Bool, true, false, arith}
+use Rattle.std.proofs.Common.{◌≡◌, ℕ, ◌≢◌, ◌==◌, ◌||◌, Bool, true, false, arith}
 use Rattle.std.proofs.lemmas.Bool.Decides.{nat_tests}
 use Rattle.rl_model.specs.World.{World}
 use Rattle.rl_model.specs.Moves.{reserve, release, lock, unlock, enter, leave}

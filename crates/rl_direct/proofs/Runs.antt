@@ -1,24 +1,23 @@
 -- What stands after any turns: the moves are a safe run to the world, and each mind agrees.
-use Rattle.std.proofs.Common.{◌≡◌, ℕ, ◌+◌, ◌<◌, ◌≤◌, ◌≢◌, ◌==◌, ◌&&◌, Bool, true, false, subst, List, [], ◌∷◌, ◌++◌, length, set, replicate, slice_get, Option, Some, None, zero, suc, refl, sym, ap, ◌∙◌, ◌⊎◌, inl, inr, ⊎_elim, arith}
+use Rattle.std.proofs.Common.{◌≡◌, ℕ, ◌<◌, ◌≤◌, ◌≢◌, ◌==◌, ◌&&◌, false, subst, List, [], ◌∷◌, ◌++◌, length, set, replicate, slice_get, Option, Some, zero, suc, refl, sym, ap, ◌∙◌, ◌⊎◌, inl, inr, ⊎_elim, arith}
 use Rattle.std.specs.Option.{option_map_or}
 use Rattle.std.specs.List.{fold}
-use Rattle.std.proofs.lemmas.Bool.{cases_eq, false≢true}
+use Rattle.std.proofs.lemmas.Bool.{false≢true}
 use Rattle.std.proofs.lemmas.Bool.Decides.{nat_tests}
 use Rattle.std.proofs.lemmas.Grind.{fold-append}
 use Rattle.std.proofs.lemmas.List.{length-set, length-replicate}
 use Rattle.std.proofs.lemmas.Option.{slice_get_within}
 use Rattle.rl_model.specs.declared.moves.Move.{Move}
 use Rattle.rl_model.specs.declared.network.NetworkPlan.{NetworkPlan}
-use Rattle.rl_model.specs.Network.{has_end, route_segment, IsNetwork}
+use Rattle.rl_model.specs.Network.{has_end, IsNetwork}
 use Rattle.rl_model.specs.World.{World, start, starts_on}
 use Rattle.rl_model.specs.Moves.{guards, AllHold, after}
 use Rattle.rl_model.specs.Safety.{IsKept, Guarded, GuardedFrom, world_after}
 use Rattle.rl_model.proofs.Kept.{kept_start, kept_after}
-use Rattle.rl_direct.specs.declared.mind.Job.TheVariants.{Near}
 use Rattle.rl_direct.specs.declared.mind.TrainMind.{TrainMind}
-use Rattle.rl_direct.specs.Direct.{from_of, through_of, to_of, other_end, rests, start_mind, IsTurn, Driven}
+use Rattle.rl_direct.specs.Direct.{from_of, rests, start_mind, IsTurn, Driven}
 use Rattle.rl_direct.specs.Direct.Driven.{at_start, resting, moving, next_round}
-use Rattle.rl_direct.specs.Agreement.{Pictures, Agrees}
+use Rattle.rl_direct.specs.Agreement.{Agrees}
 use Rattle.rl_direct.proofs.Steps.{place_is}
 use Rattle.rl_direct.proofs.Others.{agrees_aside}
 use Rattle.rl_direct.proofs.Turns.{IsSound, sound_turn}

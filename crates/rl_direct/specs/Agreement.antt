@@ -6,7 +6,7 @@ use Rattle.rl_model.specs.Network.{has_end, steps_of}
 use Rattle.rl_model.specs.World.{World}
 use Rattle.rl_model.specs.Reports.{made_in, refused_in}
 use Rattle.rl_direct.specs.declared.mind.Job.{Job}
-use Rattle.rl_direct.specs.declared.mind.Job.TheVariants.{Near, Far, Lock, Pass, Unlock, FreeNear, FreeFar, DropFar, DropNear}
+use Rattle.rl_direct.specs.declared.mind.Job.TheVariants.{Near, Far, Pass, Unlock, FreeNear, FreeFar, DropFar, DropNear}
 use Rattle.rl_direct.specs.declared.mind.TrainMind.{TrainMind}
 use Rattle.rl_direct.specs.Direct.{from_of, through_of, to_of, other_end, is_near}
 

@@ -11,7 +11,7 @@ ghost use Rattle.rl_direct.specs.declared.mind.Job.TheVariants.{Near, Pass};
 ghost use Rattle.rl_direct.specs.declared.mind.TrainMind.{TrainMind};
 ghost use Rattle.rl_direct.specs.Direct.{from_of, through_of, to_of, other_end, rests, IsTurn, Driven, IsDirectReport};
 ghost use Rattle.rl_direct.specs.Passage.{IsPassage};
-ghost use Rattle.rl_direct.specs.Agreement.{Agrees};
+ghost use Rattle.rl_direct.specs.Agreement.{Agrees, passed_in};
 
 /// Each step of a route of a network is a passage between two segments, each with two ends, that its box can connect.
 pub fn route_steps()
@@ -39,6 +39,7 @@ pub fn direct_minds()
     ensures some_left { (net : NetworkPlan) (tries round t : ℕ) (ms : List Move) (w : World) (minds : List TrainMind) (u : ℕ) (mind : TrainMind) → IsNetwork net → Driven net tries round t ms w minds → slice_get minds u ≡ Some mind → rests net u mind ≡ false → mind.job ≡ Near → 0 < mind.left }
     ensures waits { (net : NetworkPlan) (tries round t : ℕ) (ms : List Move) (w : World) (minds : List TrainMind) (u : ℕ) (mind : TrainMind) → IsNetwork net → Driven net tries round t ms w minds → slice_get minds u ≡ Some mind → mind.waits ≡ true → mind.job ≡ Pass }
     ensures attempts { (net : NetworkPlan) (tries round t : ℕ) (ms : List Move) (w : World) (minds : List TrainMind) (u : ℕ) (mind : TrainMind) → IsNetwork net → Driven net tries round t ms w minds → slice_get minds u ≡ Some mind → mind.left + mind.step + mind.refused ≤ tries }
+    ensures made { (net : NetworkPlan) (tries round t : ℕ) (ms : List Move) (w : World) (minds : List TrainMind) (u : ℕ) (mind : TrainMind) → IsNetwork net → Driven net tries round t ms w minds → slice_get minds u ≡ Some mind → made_in ms u ≡ mind.step + passed_in mind.job }
     ensures refused { (net : NetworkPlan) (tries round t : ℕ) (ms : List Move) (w : World) (minds : List TrainMind) (u : ℕ) (mind : TrainMind) → IsNetwork net → Driven net tries round t ms w minds → slice_get minds u ≡ Some mind → refused_in ms u ≡ mind.refused }
     ensures counted { (net : NetworkPlan) (tries round t : ℕ) (ms : List Move) (w : World) (minds : List TrainMind) (u : ℕ) (mind : TrainMind) → IsNetwork net → Driven net tries round t ms w minds → slice_get minds u ≡ Some mind → made_in ms u + refused_in ms u ≤ tries }
 {}

@@ -19,6 +19,9 @@ returns-clause-waits c net tries round t ms w minds u mind network driven there 
 pub returns-clause-attempts : goal.returns-clause-attempts
 returns-clause-attempts c net tries round t ms w minds u mind network driven there = let had = ((stands net tries network round t ms w minds driven).each u mind there).attempts in omega arith
 
+pub returns-clause-made : goal.returns-clause-made
+returns-clause-made c net tries round t ms w minds u mind network driven there = ((stands net tries network round t ms w minds driven).each u mind there).made
+
 pub returns-clause-refused : goal.returns-clause-refused
 returns-clause-refused c net tries round t ms w minds u mind network driven there = ((stands net tries network round t ms w minds driven).each u mind there).refused
 
