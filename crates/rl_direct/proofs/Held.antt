@@ -1,5 +1,5 @@
 -- What a train holds and has locked, as the guards ask for it.
-use Rattle.std.proofs.Common.{◌≡◌, ℕ, ◌<◌, ◌≢◌, ◌==◌, ◌&&◌, ◌||◌, Bool, true, false, subst, length, Option, Some, None, option_and_then, cond, sym, ap, ◌∙◌, arith}
+use Rattle.std.proofs.Common.{◌≡◌, ℕ, ◌<◌, ◌≢◌, ◌&&◌, Bool, true, false, subst, length, Option, Some, None, option_and_then, cond, sym, ap, ◌∙◌, arith}
 use Rattle.std.specs.Prelude.{is_some}
 use Rattle.std.specs.Option.{option_map_or}
 use Rattle.std.proofs.lemmas.Bool.{and_from, false≢true}
@@ -13,13 +13,6 @@ use Rattle.rl_model.specs.World.{World}
 use Rattle.rl_model.specs.Moves.{holds_ends, HasLockOf, EachLockedPath}
 use Rattle.rl_model.specs.Safety.{IsKept}
 use Rattle.rl_direct.proofs.Steps.{there}
-
--- an end of one of two is an end
-pub at_first : (ends : ℕ → Bool) (b far : ℕ) → ((x : ℕ) → ends x ≡ (x == b || x == far)) → ends b ≡ true
-at_first ends b far two = grind (arith, nat_tests, two b)
-
-pub at_second : (ends : ℕ → Bool) (b far : ℕ) → ((x : ℕ) → ends x ≡ (x == b || x == far)) → ends far ≡ true
-at_second ends b far two = grind (arith, nat_tests, two far)
 
 -- its own end of a segment is no other train's
 pub held_apart : (w : World) (t u s b : ℕ) → w.holds t s b ≡ false → w.holds u s b ≡ true → u ≢ t

@@ -142,6 +142,10 @@ step_is net t k network h =
       to = route_segment_in net t (k + 1) found.0 found.1 (omega arith);
     }
 
+-- the second of two ends is an end
+at_other : (ends : ℕ → Bool) (b far : ℕ) → ((x : ℕ) → ends x ≡ (x == b || x == far)) → ends far ≡ true
+at_other ends b far two = grind (arith, nat_tests, two far)
+
 -- a step of a route is a passage
 pub passage_is : (net : NetworkPlan) (t k : ℕ) → IsNetwork net → k < steps_of net t → let from = from_of net t k in let b = through_of net t k in let to = to_of net t k in IsPassage net from b to (other_end net to b) (other_end net from b)
 passage_is net t k network h =
@@ -161,6 +165,10 @@ passage_is net t k network h =
       back_there = from_ends.there;
       far_apart = to_ends.apart;
       back_apart = from_ends.apart;
+      from_at = ends.0;
+      to_at = ends.1;
+      to_far = at_other (has_end net (to_of net t k)) (through_of net t k) (other_end net (to_of net t k) (through_of net t k)) to_ends.ends;
+      from_back = at_other (has_end net (from_of net t k)) (through_of net t k) (other_end net (from_of net t k) (through_of net t k)) from_ends.ends;
       from_ends = from_ends.ends;
       to_ends = to_ends.ends;
       connects = connected;

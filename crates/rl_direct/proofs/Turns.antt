@@ -21,7 +21,7 @@ use Rattle.rl_direct.specs.Passage.{IsPassage}
 use Rattle.rl_direct.specs.Agreement.{Agrees}
 use Rattle.rl_direct.proofs.Steps.{step_is, passage_is}
 use Rattle.rl_direct.proofs.Minds.{places, at_job, agrees_on, agrees_refused, agrees_made, agrees_next}
-use Rattle.rl_direct.proofs.Held.{at_first, at_second, held_apart, lock_apart, holds_both, only_path, side_connects}
+use Rattle.rl_direct.proofs.Held.{held_apart, lock_apart, holds_both, only_path, side_connects}
 use Rattle.rl_direct.proofs.Pictures.{after_near, after_far, after_lock, after_enter, after_leave, after_unlock, after_free_near, after_free_far, after_drop_far, after_drop_near}
 use Rattle.rl_direct.proofs.Others.{IsAside, aside_reserve, aside_release, aside_lock, aside_unlock, aside_enter, aside_leave, aside_throw, aside_settle, aside_refuse, aside_bar}
 
@@ -43,7 +43,7 @@ sound_near net tries ms w t mind at some free =
     let p = places net t mind.step in
     let m = moves.Reserve (train t) (seg p.to) (switch_box p.b) in
     record {
-      guarded = (at_first (has_end net p.to) p.b (other_end net p.to p.b) at.passage.to_ends, (free, tt));
+      guarded = (at.passage.to_at, (free, tt));
       agrees = agrees_on net tries ms w (after w m) t m mind Near Far mind.waits (mind.left - 1) at.agrees at.busy (λ h. let e = at.agrees.waits h in cc) (omega arith) refl refl refl refl (after_near (has_end net) w t mind.waits p.from p.b p.to p.back at.agrees.picture);
       aside = λ u other. aside_reserve w t p.to p.b u other;
     }
@@ -56,7 +56,7 @@ sound_near_refused net tries ms w t mind at u some theirs =
     let apart = at.passage.apart in
     let mine : w.holds t p.to p.b ≡ false = grind (arith, nat_tests, at.agrees.picture.holds p.to p.b) in
     record {
-      guarded = (at_first (has_end net p.to) p.b p.far at.passage.to_ends, ((held_apart w t u p.to p.b mine theirs, theirs), tt));
+      guarded = (at.passage.to_at, ((held_apart w t u p.to p.b mine theirs, theirs), tt));
       agrees = agrees_refused net tries ms w t m mind Near Near (mind.left - 1) at.agrees at.busy (λ e. cc) (omega arith) refl refl (eq-eqb t t refl) at.agrees.picture;
       aside = λ v other. aside_refuse w t p.to p.b u v other;
     }
@@ -67,7 +67,7 @@ sound_far net tries ms w t mind at free =
     let p = places net t mind.step in
     let m = moves.Reserve (train t) (seg p.to) (switch_box p.far) in
     record {
-      guarded = (at_second (has_end net p.to) p.b p.far at.passage.to_ends, (free, tt));
+      guarded = (at.passage.to_far, (free, tt));
       agrees = agrees_on net tries ms w (after w m) t m mind Far Lock mind.waits mind.left at.agrees at.busy (λ h. let e = at.agrees.waits h in cc) refl refl refl refl refl (after_far (has_end net) w t mind.waits p.from p.b p.to p.far p.back at.passage.to_ends at.agrees.picture);
       aside = λ u other. aside_reserve w t p.to p.far u other;
     }
@@ -81,7 +81,7 @@ sound_far_refused net tries ms w t mind at u theirs =
     let other = at.passage.far_apart in
     let mine : w.holds t p.to p.far ≡ false = grind (arith, nat_tests, at.agrees.picture.holds p.to p.far) in
     record {
-      guarded = (at_second (has_end net p.to) p.b p.far at.passage.to_ends, ((held_apart w t u p.to p.far mine theirs, theirs), tt));
+      guarded = (at.passage.to_far, ((held_apart w t u p.to p.far mine theirs, theirs), tt));
       agrees = agrees_refused net tries ms w t m mind Far DropNear mind.left at.agrees at.busy (λ e. cc) (omega arith) refl refl (eq-eqb t t refl) (record { occupies = at.agrees.picture.occupies; across = at.agrees.picture.across; holds = at.agrees.picture.holds; locked = at.agrees.picture.locked });
       aside = λ v away. aside_refuse w t p.to p.far u v away;
     }
@@ -92,8 +92,8 @@ sound_lock net tries ms w t mind at free =
     let p = places net t mind.step in
     let m = moves.Lock (train t) (switch_box p.b) (seg p.from) (seg p.to) in
     let off : mind.waits ≡ false = false_from_ne_true mind.waits (λ h. let e = at.agrees.waits h in cc) in
-    let from_end = at_first (has_end net p.from) p.b p.back at.passage.from_ends in
-    let to_end = at_first (has_end net p.to) p.b p.far at.passage.to_ends in
+    let from_end = at.passage.from_at in
+    let to_end = at.passage.to_at in
     let both : (s : ℕ) → has_end net s p.b ≡ true → (s == p.from || s == p.to) ≡ true → ((s == p.from || s == p.to) && has_end net s p.b) ≡ true = λ s e h. and_from (s == p.from || s == p.to) (has_end net s p.b) h e in
     record {
       guarded = ((at.passage.apart, from_end, to_end), (free, ((at.agrees.picture.holds p.from p.b ∙ both p.from from_end (or_left (p.from == p.from) (p.from == p.to) (eq-eqb p.from p.from refl)), at.agrees.picture.holds p.to p.b ∙ both p.to to_end (or_right (p.to == p.from) (p.to == p.to) (eq-eqb p.to p.to refl))), (at.passage.connects, tt))));
@@ -183,7 +183,7 @@ sound_free_near : (net : NetworkPlan) (tries : ℕ) (ms : List Move) (w : World)
 sound_free_near net tries ms w t mind at =
     let p = places net t mind.step in
     let m = moves.Release (train t) (seg p.from) (switch_box p.b) in
-    let from_end = at_first (has_end net p.from) p.b p.back at.passage.from_ends in
+    let from_end = at.passage.from_at in
     record {
       guarded = (from_end, (at.agrees.picture.holds p.from p.b ∙ and_from (p.from == p.from || p.from == p.to) (has_end net p.from p.b) (or_left (p.from == p.from) (p.from == p.to) (eq-eqb p.from p.from refl)) from_end, (at.agrees.picture.occupies p.from ∙ ne_eqb p.from p.to at.passage.apart, tt)));
       agrees = agrees_on net tries ms w (after w m) t m mind FreeNear FreeFar mind.waits mind.left at.agrees at.busy (λ h. let e = at.agrees.waits h in cc) refl refl refl refl refl (after_free_near (has_end net) w t mind.waits p.from p.b p.to p.back at.passage.apart at.passage.back_apart at.passage.from_ends at.agrees.picture);
@@ -197,7 +197,7 @@ sound_free_far net tries ms w t mind at =
     let m = moves.Release (train t) (seg p.from) (switch_box p.back) in
     let mine : w.holds t p.from p.back ≡ true = grind (arith, nat_tests, at.agrees.picture.holds p.from p.back) in
     record {
-      guarded = (at_second (has_end net p.from) p.b p.back at.passage.from_ends, (mine, (at.agrees.picture.occupies p.from ∙ ne_eqb p.from p.to at.passage.apart, tt)));
+      guarded = (at.passage.from_back, (mine, (at.agrees.picture.occupies p.from ∙ ne_eqb p.from p.to at.passage.apart, tt)));
       agrees = agrees_next net tries ms w (after w m) t m mind at.agrees at.busy refl refl refl (after_free_far (has_end net) w t mind.waits p.from p.b p.to p.back (through_of net t (mind.step + 1)) (to_of net t (mind.step + 1)) (other_end net p.to (through_of net t (mind.step + 1))) at.passage.apart at.agrees.picture);
       aside = λ u other. aside_release w t p.from p.back u other;
     }
@@ -207,7 +207,7 @@ sound_drop_far : (net : NetworkPlan) (tries : ℕ) (ms : List Move) (w : World) 
 sound_drop_far net tries ms w t mind at =
     let p = places net t mind.step in
     let m = moves.Release (train t) (seg p.to) (switch_box p.far) in
-    let to_end = at_second (has_end net p.to) p.b p.far at.passage.to_ends in
+    let to_end = at.passage.to_far in
     record {
       guarded = (to_end, (at.agrees.picture.holds p.to p.far ∙ and_from (p.to == p.from || p.to == p.to) (has_end net p.to p.far) (or_right (p.to == p.from) (p.to == p.to) (eq-eqb p.to p.to refl)) to_end, (at.agrees.picture.occupies p.to ∙ ne_eqb p.to p.from (λ e. at.passage.apart (sym e)), tt)));
       agrees = agrees_on net tries ms w (after w m) t m mind DropFar DropNear mind.waits mind.left at.agrees at.busy (λ h. let e = at.agrees.waits h in cc) refl refl refl refl refl (after_drop_far (has_end net) w t mind.waits p.from p.b p.to p.far p.back at.passage.apart at.passage.far_apart at.passage.to_ends at.agrees.picture);
@@ -221,7 +221,7 @@ sound_drop_near net tries ms w t mind at =
     let m = moves.Release (train t) (seg p.to) (switch_box p.b) in
     let mine : w.holds t p.to p.b ≡ true = grind (arith, nat_tests, at.agrees.picture.holds p.to p.b) in
     record {
-      guarded = (at_first (has_end net p.to) p.b p.far at.passage.to_ends, (mine, (at.agrees.picture.occupies p.to ∙ ne_eqb p.to p.from (λ e. at.passage.apart (sym e)), tt)));
+      guarded = (at.passage.to_at, (mine, (at.agrees.picture.occupies p.to ∙ ne_eqb p.to p.from (λ e. at.passage.apart (sym e)), tt)));
       agrees = agrees_on net tries ms w (after w m) t m mind DropNear Near mind.waits mind.left at.agrees at.busy (λ h. let e = at.agrees.waits h in cc) refl refl refl refl refl (after_drop_near (has_end net) w t mind.waits p.from p.b p.to p.back at.passage.apart at.agrees.picture);
       aside = λ u other. aside_release w t p.to p.b u other;
     }

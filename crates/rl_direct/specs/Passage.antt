@@ -13,6 +13,10 @@ pub record IsPassage (net : NetworkPlan) (from b to far back : ℕ) : Type 0 whe
   pub back_there : back < length net.boxes
   pub far_apart : far ≢ b
   pub back_apart : back ≢ b
+  pub from_at : has_end net from b ≡ true
+  pub to_at : has_end net to b ≡ true
+  pub to_far : has_end net to far ≡ true
+  pub from_back : has_end net from back ≡ true
   pub from_ends : (x : ℕ) → has_end net from x ≡ (x == b || x == back)
   pub to_ends : (x : ℕ) → has_end net to x ≡ (x == b || x == far)
   pub connects : can_connect net b from to ≡ true
