@@ -1,1 +1,3 @@
 pub mod Direct
+pub mod Passage
+pub mod Agreement

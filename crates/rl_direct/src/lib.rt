@@ -4,6 +4,7 @@
 //! drives in its place, and goes then. It knows nothing of texts and files.
 #![tactic(auto)]
 
+pub mod laws;
 pub mod mind;
 
 pub use mind::{Job, TrainMind, TrainMinds};
