@@ -1,0 +1,65 @@
+ghost use Rattle.std.specs.Prelude.{◌≡◌, ◌<◌, length, slice_get, slice_set, Some};
+ghost use Rattle.rl_domain.specs.Tables.{made_of};
+
+use crate::tables::{BoxState, Standing};
+use rl_base::{BoxId, TrainId};
+use std::marker::Model;
+
+/// The guard of a move that failed. Guards have the numbers 1 to 24, and a move's are tested in their order.
+#[derive(Clone, Copy, Debug, PartialEq, Eq)]
+pub struct Guard {
+    pub number: u32,
+}
+
+/// Where every train stands, who holds what, and how the points stand.
+#[derive(Debug, Drop)]
+pub struct World {
+    trains: Vec<Standing>,
+    boxes: Vec<BoxState>,
+}
+
+impl Model for World {
+    ghost use Rattle.rl_domain.specs.Tables.{Tables};
+
+    ghost Value = { Tables };
+
+    ghost view = { λ w. record { trains = w.trains.items; boxes = w.boxes.items } };
+}
+
+impl World {
+    pub(crate) fn standing(&self, t: TrainId) -> Standing
+        requires { t.0 < length self.now.trains }
+        ensures { slice_get self.now.trains t.0 ≡ Some result }
+    {
+        self.trains[t.0 as usize]
+    }
+
+    pub(crate) fn state(&self, b: BoxId) -> BoxState
+        requires { b.0 < length self.now.boxes }
+        ensures { slice_get self.now.boxes b.0 ≡ Some result }
+    {
+        self.boxes[b.0 as usize]
+    }
+
+    pub(crate) fn put_standing(&mut self, t: TrainId, standing: Standing)
+        requires { t.0 < length self.old.trains }
+        ensures { self.new ≡ record self.old { trains = slice_set self.old.trains t.0 standing } }
+    {
+        self.trains[t.0 as usize] = standing;
+    }
+
+    pub(crate) fn put_state(&mut self, b: BoxId, state: BoxState)
+        requires { b.0 < length self.old.boxes }
+        ensures { self.new ≡ record self.old { boxes = slice_set self.old.boxes b.0 state } }
+    {
+        self.boxes[b.0 as usize] = state;
+    }
+
+    /// How many steps the train has made.
+    pub fn made(&self, t: TrainId) -> u32
+        requires { t.0 < length self.now.trains }
+        ensures { result ≡ made_of self.now t.0 }
+    {
+        self.standing(t).made
+    }
+}
