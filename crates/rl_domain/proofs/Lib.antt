@@ -1,1 +1,4 @@
 pub mod Lookups
+pub mod Arms
+pub mod Worlds
+pub mod Beginnings

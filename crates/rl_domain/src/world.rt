@@ -1,8 +1,14 @@
-ghost use Rattle.std.specs.Prelude.{◌≡◌, ◌<◌, length, slice_get, slice_set, Some};
-ghost use Rattle.rl_domain.specs.Tables.{made_of};
+ghost use Rattle.std.specs.Prelude.{◌≡◌, ◌<◌, length, slice_get, slice_set, Some, IfOk};
+ghost use Rattle.rl_model.specs.Safety.{IsKept};
+ghost use Rattle.rl_model.specs.World.{start};
+ghost use Rattle.rl_domain.specs.Tables.{made_of, world_of, Fits};
 
+use crate::starts::{first_standings, first_states};
 use crate::tables::{BoxState, Standing};
-use rl_base::{BoxId, TrainId};
+use rl_base::{BoxId, NoMemory, TrainId};
+use rl_model::laws::safe_runs;
+use rl_net::Network;
+use std::alloc::Global;
 use std::marker::Model;
 
 /// The guard of a move that failed. Guards have the numbers 1 to 24, and a move's are tested in their order.
@@ -27,6 +33,19 @@ impl Model for World {
 }
 
 impl World {
+    /// The start of the network: each train on the first segment of its route, which it holds at both ends.
+    pub fn start(alloc: Global, net: &Network) -> Result<World, NoMemory>
+        ensures start { IfOk result (λ w. world_of net.now w ≡ start net.now) }
+        ensures fits { IfOk result (Fits net.now) }
+        ensures kept { IfOk result (λ w. IsKept net.now (world_of net.now w)) }
+    {
+        safe_runs();
+        let _trains = net.trains();
+        let trains = first_standings(alloc, net)?;
+        let boxes = first_states(alloc, net)?;
+        Ok(World { trains, boxes })
+    }
+
     pub(crate) fn standing(&self, t: TrainId) -> Standing
         requires { t.0 < length self.now.trains }
         ensures { slice_get self.now.trains t.0 ≡ Some result }
