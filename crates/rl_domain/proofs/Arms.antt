@@ -5,6 +5,9 @@ use Rattle.std.proofs.lemmas.Option.{option_and_then_some, same_Some, slice_get_
 use Rattle.rl_base.specs.Kind.{arms_of}
 use Rattle.rl_base.specs.declared.kind.Kind.{Kind}
 use Rattle.rl_base.specs.declared.kind.Kind.TheVariants.{Buffer, Joint, Point, Crossing}
+use Rattle.std.specs.Option.{option_map}
+use Rattle.rl_base.specs.declared.ids.BoxId.{BoxId}
+use Rattle.rl_base.specs.declared.ids.Arm.{Arm}
 use Rattle.rl_model.specs.declared.network.Segment.{Segment}
 use Rattle.rl_model.specs.declared.network.NetworkPlan.{NetworkPlan}
 use Rattle.rl_domain.specs.declared.tables.BoxState.{BoxState}
@@ -69,3 +72,16 @@ holder_past_arms x i past =
 pub option_cases : {A : Type 0} (o : Option A) → (o ≡ None) ⊎ ((x : A) × (o ≡ Some x))
 option_cases None = inl refl
 option_cases (Some x) = inr (x, refl)
+
+-- the boxes at which a segment ends are there
+pub ends_in_range : (net : NetworkPlan) (s : ℕ) (low high : BoxId) (x y : Arm) → IsNetwork net → option_map {U = (BoxId × Arm) × (BoxId × Arm)} (λ (g : Segment). ((g.low.at, g.low.arm), (g.high.at, g.high.arm))) (slice_get net.segments s) ≡ Some ((low, x), (high, y)) → (low.0 < length net.boxes) × (high.0 < length net.boxes)
+ends_in_range net s low high x y network is =
+    elim (slice_get_cases net.segments s).1 [
+      inl here ↦
+        let segment = network.segments s here.0 here.2 in
+        let both = rw here.2 at is in
+        let lower = segment.low.box in
+        let higher = segment.high.box in
+        (grind arith, grind arith) |
+      inr out ↦ let none = rw out.1 at is in absurd (cc)
+    ]

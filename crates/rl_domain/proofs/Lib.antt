@@ -2,3 +2,4 @@ pub mod Lookups
 pub mod Arms
 pub mod Worlds
 pub mod Beginnings
+pub mod Meanings

@@ -1,3 +1,4 @@
 pub mod States
 pub mod Tables
 pub mod Starts
+pub mod Applies

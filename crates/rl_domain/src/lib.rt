@@ -6,6 +6,7 @@
 //! made them: it has no words, no protocol and no reports.
 #![tactic(auto)]
 
+mod facts;
 mod starts;
 pub mod tables;
 pub mod world;

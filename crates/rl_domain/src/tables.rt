@@ -1,5 +1,5 @@
 ghost use Rattle.std.specs.Prelude.{◌≡◌};
-ghost use Rattle.rl_domain.specs.States.{holder_at, with_holder};
+ghost use Rattle.rl_domain.specs.States.{holder_at, with_holder, is_train, is_lock, is_lock_of, stands_on, is_across, comes_from};
 
 use rl_base::{Arm, BoxId, SegId, TrainId};
 use rl_model::Points;
@@ -67,4 +67,48 @@ pub struct Standing {
     pub made: u32,
     pub on: SegId,
     pub across: Option<Passage>,
+}
+
+impl Standing {
+    /// Whether its tail or its head is on the segment.
+    pub(crate) fn is_on(&self, s: SegId) -> bool
+        ensures { result ≡ stands_on s.0 self.now }
+    {
+        s == self.on || self.across.is_some_and(|p| s == p.to)
+    }
+
+    /// Whether it is across the box.
+    pub(crate) fn is_across(&self, b: BoxId) -> bool
+        ensures { result ≡ is_across b.0 self.now }
+    {
+        self.across.is_some_and(|p| b == p.b)
+    }
+
+    /// Whether it is across a box, and comes from the segment.
+    pub(crate) fn comes_from(&self, s: SegId) -> bool
+        ensures { result ≡ comes_from s.0 self.now }
+    {
+        s == self.on && self.across.is_some()
+    }
+}
+
+/// Whether the lock is the train's.
+pub(crate) fn is_lock_of(t: TrainId, lock: Option<PathLock>) -> bool
+    ensures { result ≡ is_lock_of t.0 lock }
+{
+    lock.is_some_and(|l| t == l.t)
+}
+
+/// Whether the holder is the train.
+pub(crate) fn is_train(t: TrainId, holder: Option<TrainId>) -> bool
+    ensures { result ≡ is_train t.0 holder }
+{
+    holder.is_some_and(|u| t == u)
+}
+
+/// Whether the lock is the train's, from one segment to the other.
+pub(crate) fn is_lock(t: TrainId, s: SegId, s2: SegId, lock: Option<PathLock>) -> bool
+    ensures { result ≡ is_lock t.0 s.0 s2.0 lock }
+{
+    lock.is_some_and(|l| t == l.t && s == l.s && s2 == l.s2)
 }

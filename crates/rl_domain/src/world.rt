@@ -1,7 +1,8 @@
 ghost use Rattle.std.specs.Prelude.{◌≡◌, ◌<◌, length, slice_get, slice_set, Some, IfOk};
+ghost use Rattle.rl_model.specs.declared.network.NetworkPlan.{NetworkPlan};
 ghost use Rattle.rl_model.specs.Safety.{IsKept};
 ghost use Rattle.rl_model.specs.World.{start};
-ghost use Rattle.rl_domain.specs.Tables.{made_of, world_of, Fits};
+ghost use Rattle.rl_domain.specs.Tables.{world_of, Fits};
 
 use crate::starts::{first_standings, first_states};
 use crate::tables::{BoxState, Standing};
@@ -77,7 +78,7 @@ impl World {
     /// How many steps the train has made.
     pub fn made(&self, t: TrainId) -> u32
         requires { t.0 < length self.now.trains }
-        ensures { result ≡ made_of self.now t.0 }
+        ensures { (net : NetworkPlan) → result ≡ (world_of net self.now).made t.0 }
     {
         self.standing(t).made
     }
