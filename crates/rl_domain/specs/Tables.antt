@@ -27,6 +27,18 @@ holder_of net tables s b =
 abbrev pub lock_of : Tables → ℕ → Option PathLock
 lock_of tables b = option_and_then (λ (x : BoxState). x.lock) (slice_get tables.boxes b)
 
+-- the lock of box b is train t's, from one segment to the other
+abbrev pub locked_of : Tables → ℕ → ℕ → ℕ → ℕ → Bool
+locked_of tables b t from to = is_lock t from to (lock_of tables b)
+
+-- train t occupies segment s
+abbrev pub occupies_of : Tables → ℕ → ℕ → Bool
+occupies_of tables t s = option_map_or (stands_on s) (slice_get tables.trains t) false
+
+-- train t is across box b, from one segment to the other
+abbrev pub across_of : Tables → ℕ → ℕ → ℕ → ℕ → Bool
+across_of tables t b from to = option_map_or (stands_across b from to) (slice_get tables.trains t) false
+
 -- the points of box b
 abbrev pub points_of : Tables → ℕ → Points
 points_of tables b = option_map_or (λ (x : BoxState). x.points) (slice_get tables.boxes b) points.Left
@@ -39,10 +51,10 @@ made_of tables t = option_map_or (λ (x : Standing). x.made) (slice_get tables.t
 abbrev pub world_of : NetworkPlan → Tables → World
 world_of net tables =
     record {
-      occupies = λ t s. option_map_or (stands_on s) (slice_get tables.trains t) false;
-      across = λ t b from to. option_map_or (stands_across b from to) (slice_get tables.trains t) false;
+      occupies = occupies_of tables;
+      across = across_of tables;
       holds = λ t s b. is_train t (holder_of net tables s b);
-      locked = λ b t from to. is_lock t from to (lock_of tables b);
+      locked = locked_of tables;
       points = points_of tables;
       made = made_of tables;
     }

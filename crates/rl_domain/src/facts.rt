@@ -1,9 +1,8 @@
 ghost use Rattle.std.specs.Prelude.{◌≡◌, ℕ, ◌<◌, ◌↔◌, ◌≢◌, IsTrue, false, true, length};
-ghost use Rattle.rl_model.specs.declared.network.NetworkPlan.{NetworkPlan};
 ghost use Rattle.rl_model.specs.Network.{has_end, can_connect, connects, steps_of, IsStep};
 ghost use Rattle.rl_model.specs.World.{points_connect};
-ghost use Rattle.rl_model.specs.Moves.{IsFree, IsUnlocked, HasLock, HasLockOf, EachLockedPath, IsOff, holds_ends};
-ghost use Rattle.rl_domain.specs.Tables.{world_of, holder_of, lock_of, Fits};
+ghost use Rattle.rl_model.specs.Moves.{IsFree, EachLockedPath, holds_ends};
+ghost use Rattle.rl_domain.specs.Tables.{world_of, holder_of, lock_of, locked_of, occupies_of, across_of, points_of, Fits};
 ghost use Rattle.rl_domain.specs.Applies.{IsTrainOf, IsSegmentOf, IsBoxOf};
 
 use crate::tables::{PathLock, is_lock, is_lock_of, is_train};
@@ -81,7 +80,7 @@ impl World {
 
     pub(crate) fn points(&self, b: BoxId) -> Points
         requires { b.0 < length self.now.boxes }
-        ensures { (net : NetworkPlan) → result ≡ (world_of net self.now).points b.0 }
+        ensures { result ≡ points_of self.now b.0 }
     {
         self.state(b).points
     }
@@ -118,28 +117,38 @@ impl World {
 
     pub(crate) fn occupies(&self, t: TrainId, s: SegId) -> bool
         requires { t.0 < length self.now.trains }
-        ensures { (net : NetworkPlan) → result ≡ (world_of net self.now).occupies t.0 s.0 }
+        ensures { result ≡ occupies_of self.now t.0 s.0 }
     {
         self.standing(t).is_on(s)
     }
 
+    /// Whether the train doesn't occupy the segment.
+    pub(crate) fn is_away(&self, t: TrainId, s: SegId) -> bool
+        requires { t.0 < length self.now.trains }
+        ensures { IsTrue result ↔ (occupies_of self.now t.0 s.0 ≡ false) }
+    {
+        !self.occupies(t, s)
+    }
+
     pub(crate) fn is_unlocked(&self, b: BoxId) -> bool
         requires { b.0 < length self.now.boxes }
-        ensures { (net : NetworkPlan) → (IsTrue result ↔ IsUnlocked (world_of net self.now) b.0) }
+        ensures { IsTrue result ↔ ((u from to : ℕ) → locked_of self.now b.0 u from to ≡ false) }
     {
         self.lock(b).is_none()
     }
 
     pub(crate) fn has_lock(&self, b: BoxId) -> bool
         requires { b.0 < length self.now.boxes }
-        ensures { (net : NetworkPlan) → (IsTrue result ↔ HasLock (world_of net self.now) b.0) }
+        ensures { IsTrue result
+            ↔ ((u : ℕ) × (from : ℕ) × (to : ℕ) × IsTrue (locked_of self.now b.0 u from to)) }
     {
         self.lock(b).is_some()
     }
 
     pub(crate) fn has_lock_of(&self, b: BoxId, t: TrainId) -> bool
         requires { b.0 < length self.now.boxes }
-        ensures { (net : NetworkPlan) → (IsTrue result ↔ HasLockOf (world_of net self.now) b.0 t.0) }
+        ensures { IsTrue result
+            ↔ ((from : ℕ) × (to : ℕ) × IsTrue (locked_of self.now b.0 t.0 from to)) }
     {
         is_lock_of(t, self.lock(b))
     }
@@ -147,14 +156,14 @@ impl World {
     /// Whether the lock of the box is the train's, from one segment to the other.
     pub(crate) fn has_path(&self, b: BoxId, t: TrainId, s: SegId, s2: SegId) -> bool
         requires { b.0 < length self.now.boxes }
-        ensures { (net : NetworkPlan) → result ≡ (world_of net self.now).locked b.0 t.0 s.0 s2.0 }
+        ensures { result ≡ locked_of self.now b.0 t.0 s.0 s2.0 }
     {
         is_lock(t, s, s2, self.lock(b))
     }
 
     pub(crate) fn is_off(&self, t: TrainId, b: BoxId) -> bool
         requires { t.0 < length self.now.trains }
-        ensures { (net : NetworkPlan) → (IsTrue result ↔ IsOff (world_of net self.now) t.0 b.0) }
+        ensures { IsTrue result ↔ ((from to : ℕ) → across_of self.now t.0 b.0 from to ≡ false) }
     {
         !self.standing(t).is_across(b)
     }
@@ -162,8 +171,7 @@ impl World {
     /// Whether the train is across no box.
     pub(crate) fn is_off_all(&self, t: TrainId) -> bool
         requires { t.0 < length self.now.trains }
-        ensures { (net : NetworkPlan)
-            → (IsTrue result ↔ ((b : ℕ) → IsOff (world_of net self.now) t.0 b)) }
+        ensures { IsTrue result ↔ ((b from to : ℕ) → across_of self.now t.0 b from to ≡ false) }
     {
         self.standing(t).across.is_none()
     }
@@ -171,8 +179,8 @@ impl World {
     /// Whether the train is across a box, and comes from the segment.
     pub(crate) fn comes_from(&self, t: TrainId, s: SegId) -> bool
         requires { t.0 < length self.now.trains }
-        ensures { (net : NetworkPlan)
-            → (IsTrue result ↔ ((b : ℕ) × (to : ℕ) × IsTrue ((world_of net self.now).across t.0 b s.0 to))) }
+        ensures { IsTrue result
+            ↔ ((b : ℕ) × (to : ℕ) × IsTrue (across_of self.now t.0 b s.0 to)) }
     {
         self.standing(t).comes_from(s)
     }

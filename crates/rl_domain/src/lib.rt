@@ -7,6 +7,7 @@
 #![tactic(auto)]
 
 mod facts;
+mod guards;
 mod starts;
 pub mod tables;
 pub mod world;

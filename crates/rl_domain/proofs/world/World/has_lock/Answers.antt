@@ -3,4 +3,4 @@ use Rattle.rl_domain.proofs.Meanings.{iff_at, locked_iff}
 use Rattle.rl_domain.proofs.world.World.has_lock.Goals as goal
 
 pub returns : goal.returns
-returns c = λ net. iff_at _ _ (c.is_some.ensures ∙ ap is_some c.lock.ensures) (locked_iff _)
+returns c = iff_at _ _ (c.is_some.ensures ∙ ap is_some c.lock.ensures) (locked_iff _)

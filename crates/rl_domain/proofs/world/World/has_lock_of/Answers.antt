@@ -6,6 +6,5 @@ use Rattle.rl_domain.proofs.world.World.has_lock_of.Goals as goal
 
 pub returns : goal.returns
 returns c =
-    λ net.
     iff_at _ _ (c.is_lock_of.ensures ∙ ap (is_lock_of c.args.t.0) c.lock.ensures)
     (lock_of_iff c.args.t.0 (lock_of c.args.self.now c.args.b.0))

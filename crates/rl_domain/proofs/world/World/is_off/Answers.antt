@@ -4,6 +4,5 @@ use Rattle.rl_domain.proofs.world.World.is_off.Goals as goal
 
 pub returns : goal.returns
 returns c =
-    λ net.
     rw c.standing.ensures
     (iff_at _ _ (ap not c.is_across.ensures) (↔_trans (not_iff _) (off_iff c.args.b.0 c.standing.result)))
