@@ -3,3 +3,4 @@ pub mod Arms
 pub mod Worlds
 pub mod Beginnings
 pub mod Meanings
+pub mod Writes

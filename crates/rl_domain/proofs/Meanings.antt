@@ -1,8 +1,8 @@
 -- What the look-ups in the tables mean for the world: each test holds exactly where its sentence does.
-use Rattle.std.proofs.Common.{◌≡◌, ℕ, ◌<◌, ◌==◌, ◌↔◌, Bool, true, false, not, ◌&&◌, length, slice_get, Option, Some, None, is_some, is_none, IsTrue, refl, sym, ap, ◌∙◌, arith}
+use Rattle.std.proofs.Common.{◌≡◌, ℕ, ◌<◌, ◌==◌, ◌↔◌, Bool, true, false, not, ◌&&◌, length, slice_get, Option, Some, None, is_some, is_none, IsTrue, refl, sym, ap, ◌∙◌, arith, inl, inr}
 use Rattle.std.specs.Option.{option_map_or}
 use Rattle.std.proofs.lemmas.Bool.{eq-eqb, eqb-true, and_from, and_parts, and_left, false_from_ne_true, false≢true, true≢false}
-use Rattle.std.proofs.lemmas.Option.{option_and_then_some}
+use Rattle.std.proofs.lemmas.Option.{slice_get_cases}
 use Rattle.rl_base.specs.declared.ids.TrainId.{TrainId}
 use Rattle.rl_model.specs.declared.network.NetworkPlan.{NetworkPlan}
 use Rattle.rl_domain.specs.declared.tables.BoxState.{BoxState}
@@ -92,8 +92,10 @@ from_iff s x = passage_from_iff s x.on.0 x.across
 -- a lock in the tables is in range
 pub lock_in_range : (net : NetworkPlan) (tables : Tables) (b : ℕ) (l : PathLock) → Fits net tables → lock_of tables b ≡ Some l → IsLock net l
 lock_in_range net tables b l fits is =
-    option_and_then_some (λ (x : BoxState). x.lock) (slice_get tables.boxes b) l is
-    (λ x there lock. (fits.states b x there).lock l lock)
+    elim (slice_get_cases tables.boxes b).1 [
+      inl here ↦ (fits.states b here.0 here.2).lock l (rw here.2 at is) |
+      inr out ↦ let none = rw out.1 at is in absurd (cc)
+    ]
 
 pub iff_at : {P : Type 0} (r s : Bool) → r ≡ s → ((s ≡ true) ↔ P) → (r ≡ true) ↔ P
 iff_at r s same f = (λ is. f.0 (sym same ∙ is), λ p. same ∙ f.1 p)

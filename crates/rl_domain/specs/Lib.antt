@@ -2,3 +2,4 @@ pub mod States
 pub mod Tables
 pub mod Starts
 pub mod Applies
+pub mod Changes

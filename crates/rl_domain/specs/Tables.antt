@@ -1,5 +1,5 @@
 -- The tables of a world: a standing for each train and a state for each box, and the world that they are.
-use Rattle.std.specs.Prelude.{◌≡◌, ℕ, ◌<◌, ◌≤◌, ◌≢◌, Bool, false, List, length, slice_get, Option, Some, None, option_and_then}
+use Rattle.std.specs.Prelude.{◌≡◌, ℕ, ◌<◌, ◌≤◌, ◌≢◌, Bool, false, List, length, slice_get, Option, Some, None}
 use Rattle.std.specs.Option.{option_map_or}
 use Rattle.rl_base.specs.Kind.{arms_of}
 use Rattle.rl_base.specs.declared.ids.TrainId.{TrainId}
@@ -21,11 +21,11 @@ pub record Tables : Type 0 where
 -- the holder of segment s at box b
 abbrev pub holder_of : NetworkPlan → Tables → ℕ → ℕ → Option TrainId
 holder_of net tables s b =
-    option_and_then (λ x. option_and_then (λ state. holder_at state x) (slice_get tables.boxes b)) (arm_of net s b)
+    option_map_or (λ x. option_map_or (λ state. holder_at state x) (slice_get tables.boxes b) None) (arm_of net s b) None
 
 -- the lock of box b
 abbrev pub lock_of : Tables → ℕ → Option PathLock
-lock_of tables b = option_and_then (λ (x : BoxState). x.lock) (slice_get tables.boxes b)
+lock_of tables b = option_map_or (λ (x : BoxState). x.lock) (slice_get tables.boxes b) None
 
 -- the lock of box b is train t's, from one segment to the other
 abbrev pub locked_of : Tables → ℕ → ℕ → ℕ → ℕ → Bool

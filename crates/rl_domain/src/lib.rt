@@ -6,6 +6,7 @@
 //! made them: it has no words, no protocol and no reports.
 #![tactic(auto)]
 
+mod changes;
 mod facts;
 mod guards;
 mod starts;

@@ -10,7 +10,7 @@ use rl_model::Points;
 use rl_net::Network;
 use std::alloc::Global;
 
-fn points_of(side: Side) -> Points
+pub(crate) fn points_of(side: Side) -> Points
     ensures { result ≡ points_at side }
 {
     match side {
