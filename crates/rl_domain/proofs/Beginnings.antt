@@ -18,6 +18,7 @@ use Rattle.rl_domain.specs.Tables.{Tables, world_of, holder_of, lock_of, Fits, I
 use Rattle.rl_domain.specs.Starts.{IsStarter, IsFirstStanding, IsFirstState, AreFirstStandings, AreFirstStates}
 use Rattle.rl_domain.proofs.Arms.{IsAtArm, IsAtArm-from_arm, arms_few, no_segment, holder_past_arms, option_cases}
 use Rattle.rl_domain.proofs.Worlds.{same_world}
+use Rattle.rl_domain.proofs.Meanings.{nobody}
 
 same_either_way : (a b : ℕ) → (a == b || false) ≡ (b == a)
 same_either_way a b = grind (arith, nat_tests)
@@ -109,11 +110,6 @@ first_standing_fits net t x first =
       passage = λ p is. let none = first.off in absurd (cc);
       going = λ p is. let none = first.off in absurd (cc);
     }
-
--- a holder whom no train is isn't there
-nobody : (o : Option TrainId) → ((t : ℕ) → is_train t o ≡ false) → o ≡ None
-nobody None isnt = refl
-nobody (Some u) isnt = let here = isnt u.0 in let same = eq-eqb u.0 u.0 refl in absurd (cc)
 
 first_free : (net : NetworkPlan) (b i : ℕ) (x : BoxState) → IsNetwork net → IsFirstState net b x → arms_of (kind_of net b) ≤ i → holder_at x i ≡ None
 first_free net b i x network first past =

@@ -4,3 +4,6 @@ pub mod Worlds
 pub mod Beginnings
 pub mod Meanings
 pub mod Writes
+pub mod Moved
+pub mod Apart
+pub mod Travels

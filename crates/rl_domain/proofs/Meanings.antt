@@ -22,6 +22,11 @@ lock_parts l t from to is =
     let first = and_parts (t == l.t.0) (from == l.s.0) last.0 in
     (eqb-true t l.t.0 first.0, eqb-true from l.s.0 first.1, eqb-true to l.s2.0 last.1)
 
+-- a holder whom no train is isn't there
+pub nobody : (o : Option TrainId) → ((t : ℕ) → is_train t o ≡ false) → o ≡ None
+nobody None isnt = refl
+nobody (Some u) isnt = let here = isnt u.0 in let same = eq-eqb u.0 u.0 refl in absurd (cc)
+
 -- no holder, and no train that is the holder
 pub free_iff : (o : Option TrainId) → (is_none o ≡ true) ↔ ((u : ℕ) → is_train u o ≡ false)
 free_iff None = (λ is u. refl, λ all. refl)
@@ -43,6 +48,10 @@ lock_of_iff t None = (λ is. absurd (false≢true is), λ some. absurd (false≢
 lock_of_iff t (Some l) =
     (λ is. (l.s.0, l.s2.0, and_from _ _ (and_from _ _ is (eq-eqb l.s.0 l.s.0 refl)) (eq-eqb l.s2.0 l.s2.0 refl)),
      λ some. let parts = lock_parts l t some.0 some.1 some.2 in eq-eqb t l.t.0 parts.0)
+
+pub no_lock : (o : Option PathLock) → ((u from to : ℕ) → is_lock u from to o ≡ false) → o ≡ None
+no_lock None isnt = refl
+no_lock (Some l) isnt = absurd (true≢false (sym (own_lock l) ∙ isnt l.t.0 l.s.0 l.s2.0))
 
 -- a test of the one locked path, and of each locked path
 pub locked_path_iff : (l : PathLock) (test : ℕ → ℕ → Bool) (answer : Bool) → (test l.s.0 l.s2.0 ≡ answer) ↔ ((u from to : ℕ) → is_lock u from to (Some l) ≡ true → test from to ≡ answer)
@@ -105,3 +114,20 @@ none_is None true is = refl
 none_is None false is = absurd (false≢true is)
 none_is (Some x) true is = absurd (true≢false is)
 none_is (Some x) false is = refl
+
+none_from : {A : Type 0} (o : Option A) → is_none o ≡ true → o ≡ None
+none_from None is = refl
+none_from (Some x) is = absurd (false≢true is)
+
+some_from : {A : Type 0} (o : Option A) → is_some o ≡ true → (x : A) × (o ≡ Some x)
+some_from None is = absurd (false≢true is)
+some_from (Some x) is = (x, refl)
+
+-- a train that is across no box has no passage, and one that comes from a segment has its tail there
+pub no_passage : (x : Standing) → ((b from to : ℕ) → stands_across b from to x ≡ false) → x.across ≡ None
+no_passage x off = none_from x.across ((off_all_iff x).1 off)
+
+pub from_parts : (s : ℕ) (x : Standing) → ((b : ℕ) × (to : ℕ) × IsTrue (stands_across b s to x)) → (s ≡ x.on.0) × ((p : Passage) × (x.across ≡ Some p))
+from_parts s x some =
+    let both = and_parts (s == x.on.0) (is_some x.across) ((from_iff s x).1 some) in
+    (eqb-true s x.on.0 both.0, some_from x.across both.1)

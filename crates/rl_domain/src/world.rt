@@ -1,12 +1,15 @@
-ghost use Rattle.std.specs.Prelude.{◌≡◌, ◌<◌, length, slice_get, slice_set, Some, IfOk};
+ghost use Rattle.std.specs.Prelude.{◌≡◌, ◌<◌, length, slice_get, slice_set, Some, IfOk, IfErr, OnOk, OnErr};
 ghost use Rattle.rl_model.specs.declared.network.NetworkPlan.{NetworkPlan};
 ghost use Rattle.rl_model.specs.Safety.{IsKept};
 ghost use Rattle.rl_model.specs.World.{start};
+ghost use Rattle.rl_model.specs.Moves.{guards, AllHold, FirstFails, after};
 ghost use Rattle.rl_domain.specs.Tables.{world_of, Fits};
+ghost use Rattle.rl_domain.specs.Applies.{IsMoveOf};
 
 use crate::starts::{first_standings, first_states};
 use crate::tables::{BoxState, Standing};
 use rl_base::{BoxId, NoMemory, TrainId};
+use rl_model::Move;
 use rl_model::laws::safe_runs;
 use rl_net::Network;
 use std::alloc::Global;
@@ -45,6 +48,30 @@ impl World {
         let trains = first_standings(alloc, net)?;
         let boxes = first_states(alloc, net)?;
         Ok(World { trains, boxes })
+    }
+
+    /// Makes the move where every guard of it holds. Else it names the first that fails, and nothing changes.
+    pub fn apply(&mut self, net: &Network, m: &Move) -> Result<(), Guard>
+        requires fits { Fits net.now self.old }
+        requires of { IsMoveOf net.now m.now }
+
+        ensures all_hold { OnOk result (AllHold (guards net.now (world_of net.now self.old) m.now)) }
+        ensures changed { OnOk result
+            (world_of net.now self.new ≡ after (world_of net.now self.old) m.now) }
+
+        ensures first_fails { IfErr result
+            (λ g. FirstFails g.number (guards net.now (world_of net.now self.old) m.now)) }
+        ensures unchanged { OnErr result (self.new ≡ self.old) }
+
+        ensures fits { Fits net.now self.new }
+        ensures kept { IsKept net.now (world_of net.now self.old)
+            → IsKept net.now (world_of net.now self.new) }
+    {
+        safe_runs();
+        let _trains = net.trains();
+        self.test(net, m)?;
+        self.change(net, m);
+        Ok(())
     }
 
     pub(crate) fn standing(&self, t: TrainId) -> Standing
