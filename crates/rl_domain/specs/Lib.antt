@@ -1,0 +1,5 @@
+pub mod States
+pub mod Tables
+pub mod Starts
+pub mod Applies
+pub mod Changes
