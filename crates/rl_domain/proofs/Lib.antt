@@ -7,3 +7,4 @@ pub mod Writes
 pub mod Moved
 pub mod Apart
 pub mod Travels
+pub mod Holders

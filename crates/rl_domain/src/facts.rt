@@ -78,7 +78,8 @@ impl World {
         self.state(b).lock
     }
 
-    pub(crate) fn points(&self, b: BoxId) -> Points
+    /// How the points of the box stand.
+    pub fn points(&self, b: BoxId) -> Points
         requires { b.0 < length self.now.boxes }
         ensures { result ≡ points_of self.now b.0 }
     {
@@ -213,7 +214,14 @@ impl World {
     }
 
     /// Whether the next step of the train's route is from `s` through the box to `s2`.
-    pub(crate) fn is_next_step(&self, net: &Network, t: TrainId, b: BoxId, s: SegId, s2: SegId) -> bool
+    pub(crate) fn is_next_step(
+        &self,
+        net: &Network,
+        t: TrainId,
+        b: BoxId,
+        s: SegId,
+        s2: SegId,
+    ) -> bool
         requires fits { Fits net.now self.now }
         requires train { IsTrainOf net.now t }
         ensures { let made = (world_of net.now self.now).made t.0 in

@@ -9,6 +9,7 @@
 mod changes;
 mod facts;
 mod guards;
+mod queries;
 mod starts;
 pub mod tables;
 pub mod world;
