@@ -1,3 +1,4 @@
 pub mod Direct
 pub mod Passage
 pub mod Agreement
+pub mod Turns

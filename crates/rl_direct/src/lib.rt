@@ -6,5 +6,7 @@
 
 pub mod laws;
 pub mod mind;
+pub mod step;
+pub mod turn;
 
 pub use mind::{Job, TrainMind, TrainMinds};

@@ -9,7 +9,7 @@ use Rattle.rl_domain.specs.declared.tables.BoxState.{BoxState}
 use Rattle.rl_domain.specs.States.{is_train, is_lock, holder_at}
 use Rattle.rl_domain.specs.Tables.{Tables, Fits, holder_of, lock_of}
 use Rattle.std.specs.Option.{option_map_or, option_map}
-use Rattle.rl_domain.specs.Applies.{IsTrainOf}
+use Rattle.rl_model.specs.Moves.{IsTrainOf}
 
 -- nobody holds what has no holder
 pub held_by_nobody : (o : Option TrainId) (u : ℕ) → o ≡ None → is_train u o ≡ false

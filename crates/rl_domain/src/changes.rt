@@ -6,7 +6,7 @@ ghost use Rattle.rl_model.specs.Network.{IsNetwork, has_end};
 ghost use Rattle.rl_model.specs.Moves.{guards, after, AllHold};
 ghost use Rattle.rl_domain.specs.Tables.{world_of, made_of, Fits, IsLock};
 ghost use Rattle.rl_domain.specs.Changes.{ChangesHolder, ChangesLock, ChangesPoints, ChangesStanding, enters, leaves};
-ghost use Rattle.rl_domain.specs.Applies.{IsTrainOf, IsSegmentOf, IsBoxOf, IsMoveOf};
+ghost use Rattle.rl_model.specs.Moves.{IsTrainOf, IsSegmentOf, IsBoxOf, IsMoveOf};
 
 use crate::starts::points_of;
 use crate::tables::{Passage, PathLock, Standing};

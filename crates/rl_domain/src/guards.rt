@@ -1,7 +1,8 @@
 ghost use Rattle.std.specs.Prelude.{◌≡◌, ◌↔◌, IsTrue, IsOk, IfErr, MatchResult};
 ghost use Rattle.rl_model.specs.Moves.{guards, reserve_guards, release_guards, lock_guards, unlock_guards, throw_guards, settle_guards, enter_guards, leave_guards, refuse_guards, bar_guards};
 ghost use Rattle.rl_domain.specs.Tables.{world_of, Fits};
-ghost use Rattle.rl_domain.specs.Applies.{Tests, IsTrainOf, IsSegmentOf, IsBoxOf, IsMoveOf};
+ghost use Rattle.rl_model.specs.Moves.{IsTrainOf, IsSegmentOf, IsBoxOf, IsMoveOf};
+ghost use Rattle.rl_domain.specs.Applies.{Tests};
 
 use crate::facts::{can_connect, has_end, points_connect};
 use crate::world::{Guard, World};

@@ -4,7 +4,7 @@ ghost use Rattle.rl_model.specs.Safety.{IsKept};
 ghost use Rattle.rl_model.specs.World.{start};
 ghost use Rattle.rl_model.specs.Moves.{guards, AllHold, FirstFails, after};
 ghost use Rattle.rl_domain.specs.Tables.{world_of, Fits};
-ghost use Rattle.rl_domain.specs.Applies.{IsMoveOf};
+ghost use Rattle.rl_model.specs.Moves.{IsMoveOf};
 
 use crate::starts::{first_standings, first_states};
 use crate::tables::{BoxState, Standing};

@@ -163,23 +163,23 @@ after w (Refuse t s b u) = w
 after w (Bar t b u) = w
 
 -- the trains, segments and boxes that a move names are the network's
-abbrev pub HasTrain : NetworkPlan → TrainId → Type 0
-HasTrain net t = t.0 < length net.trains
+abbrev pub IsTrainOf : NetworkPlan → TrainId → Type 0
+IsTrainOf net t = t.0 < length net.trains
 
-abbrev pub HasSegment : NetworkPlan → SegId → Type 0
-HasSegment net s = s.0 < length net.segments
+abbrev pub IsSegmentOf : NetworkPlan → SegId → Type 0
+IsSegmentOf net s = s.0 < length net.segments
 
-abbrev pub HasBox : NetworkPlan → BoxId → Type 0
-HasBox net b = b.0 < length net.boxes
+abbrev pub IsBoxOf : NetworkPlan → BoxId → Type 0
+IsBoxOf net b = b.0 < length net.boxes
 
 abbrev pub IsMoveOf : NetworkPlan → Move → Type 0
-IsMoveOf net (Reserve t s b) = HasTrain net t × HasSegment net s × HasBox net b
-IsMoveOf net (Release t s b) = HasTrain net t × HasSegment net s × HasBox net b
-IsMoveOf net (Lock t b s s2) = HasTrain net t × HasBox net b × HasSegment net s × HasSegment net s2
-IsMoveOf net (Unlock t b) = HasTrain net t × HasBox net b
-IsMoveOf net (Throw b) = HasBox net b
-IsMoveOf net (Settle b side) = HasBox net b
-IsMoveOf net (Enter t b s s2) = HasTrain net t × HasBox net b × HasSegment net s × HasSegment net s2
-IsMoveOf net (Leave t s) = HasTrain net t × HasSegment net s
-IsMoveOf net (Refuse t s b u) = HasTrain net t × HasSegment net s × HasBox net b × HasTrain net u
-IsMoveOf net (Bar t b u) = HasTrain net t × HasBox net b × HasTrain net u
+IsMoveOf net (Reserve t s b) = IsTrainOf net t × IsSegmentOf net s × IsBoxOf net b
+IsMoveOf net (Release t s b) = IsTrainOf net t × IsSegmentOf net s × IsBoxOf net b
+IsMoveOf net (Lock t b s s2) = IsTrainOf net t × IsBoxOf net b × IsSegmentOf net s × IsSegmentOf net s2
+IsMoveOf net (Unlock t b) = IsTrainOf net t × IsBoxOf net b
+IsMoveOf net (Throw b) = IsBoxOf net b
+IsMoveOf net (Settle b side) = IsBoxOf net b
+IsMoveOf net (Enter t b s s2) = IsTrainOf net t × IsBoxOf net b × IsSegmentOf net s × IsSegmentOf net s2
+IsMoveOf net (Leave t s) = IsTrainOf net t × IsSegmentOf net s
+IsMoveOf net (Refuse t s b u) = IsTrainOf net t × IsSegmentOf net s × IsBoxOf net b × IsTrainOf net u
+IsMoveOf net (Bar t b u) = IsTrainOf net t × IsBoxOf net b × IsTrainOf net u

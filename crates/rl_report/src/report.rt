@@ -1,6 +1,6 @@
 ghost use Rattle.rl_model.specs.declared.moves.Move.{Move};
 ghost use Rattle.std.specs.Prelude.{◌≡◌, ◌<◌, ◌≤◌, [], ◌∷◌, ◌++◌, IfOk, OnOk, length, flat_map, decimal, slice_get, Some, ℕ};
-ghost use Rattle.rl_model.specs.Moves.{IsMoveOf, HasTrain, HasSegment, HasBox};
+ghost use Rattle.rl_model.specs.Moves.{IsMoveOf, IsTrainOf, IsSegmentOf, IsBoxOf};
 ghost use Rattle.rl_model.specs.Reports.{IsReportOf};
 ghost use Rattle.rl_model.specs.ReportText.{report_text, move_line, outcome_line, outcome_lines, side_word, fate_word};
 
@@ -92,7 +92,7 @@ fn put_move(out: &mut Out, net: &Network, m: Move) -> Result<(), NoMemory>
 
 /// Appends the line of a train's outcome.
 fn put_outcome(out: &mut Out, net: &Network, t: TrainId, outcome: Outcome) -> Result<(), NoMemory>
-    requires { HasTrain net.now t }
+    requires { IsTrainOf net.now t }
     ensures { OnOk result (out.new ≡ out.old ++ outcome_line net.now t.0 outcome) }
 {
     out.text(b"train ")?;
