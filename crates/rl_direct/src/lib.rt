@@ -4,9 +4,13 @@
 //! drives in its place, and goes then. It knows nothing of texts and files.
 #![tactic(auto)]
 
+mod direct;
+mod driving;
 pub mod laws;
 pub mod mind;
+mod reports;
 pub mod step;
 pub mod turn;
 
+pub use direct::drive;
 pub use mind::{Job, TrainMind, TrainMinds};

@@ -33,6 +33,7 @@ fn other_end(net: &Network, s: SegId, b: BoxId) -> BoxId
 pub fn step_of(net: &Network, t: TrainId, k: u32) -> Step
     requires train { IsTrainOf net.now t }
     requires step { k < steps_of net.now t.0 }
+    ensures few { k < 64 }
     ensures from { result.from.0 ≡ from_of net.now t.0 k }
     ensures through { result.b.0 ≡ through_of net.now t.0 k }
     ensures to { result.to.0 ≡ to_of net.now t.0 k }
@@ -41,6 +42,7 @@ pub fn step_of(net: &Network, t: TrainId, k: u32) -> Step
     ensures back { result.back.0 ≡ other_end net.now result.from.0 result.b.0 }
 {
     route_steps();
+    let _trains = net.trains();
     let _steps = net.steps(t);
     let from = net.route_seg(t, k);
     let b = net.route_box(t, k);
