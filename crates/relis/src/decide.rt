@@ -1,7 +1,7 @@
 ghost use Rattle.std.specs.Prelude.{◌≡◌, ◌≢◌, ℕ, ◌≤◌, List, IfOk, IfSome};
 ghost use Rattle.rl_outside.specs.Causes.{Rose};
 ghost use Rattle.relis.specs.Orders.{order_of, net_of};
-ghost use Rattle.relis.specs.Written.{order_as};
+ghost use Rattle.relis.specs.Written.{order_as, HasFewRounds};
 ghost use Rattle.relis.specs.Meaning.{IsTextOf, IsAnswerTo, LeadsTo, IsNamed, NamedRose};
 ghost use Rattle.relis.specs.Decisions.{IsDecided};
 
@@ -30,6 +30,7 @@ pub struct Decision {
 
 /// The text of an order on an accepted network.
 fn text_of(alloc: Global, order: Order<'_>, net: &Network) -> Result<Out, NoMemory>
+    requires { HasFewRounds order }
     ensures { IfOk result (IsTextOf (order_as order.entry) net.now) }
 {
     match order {
@@ -43,6 +44,7 @@ fn text_of(alloc: Global, order: Order<'_>, net: &Network) -> Result<Out, NoMemo
 
 /// Carries the order out on a network text.
 fn answer_to(alloc: Global, order: Order<'_>, bytes: &[u8]) -> Result<Decision, NoMemory>
+    requires { HasFewRounds order }
     ensures { IfOk result (λ d. IsAnswerTo (order_as order.entry) bytes.now d.status d.text) }
 {
     match judge(alloc, bytes) {
@@ -59,11 +61,8 @@ fn answer_to(alloc: Global, order: Order<'_>, bytes: &[u8]) -> Result<Decision, 
 }
 
 /// Fetches the network text and carries the order out on it.
-fn carry_out<F: Files>(
-    alloc: Global,
-    order: Order<'_>,
-    files: &mut F,
-) -> Result<Decision, NoMemory>
+fn carry_out<F: Files>(alloc: Global, order: Order<'_>, files: &mut F) -> Result<Decision, NoMemory>
+    requires { HasFewRounds order }
     ensures decided { IfOk result (λ d. IsDecided (F.held files.old) (order_as order.entry) d.status d.text) }
     ensures cause { IfOk result (λ d. d.status ≡ Status.ReadFault → Rose (F.faults files.old (net_of (order_as order.entry))) (F.faults files.new (net_of (order_as order.entry)))) }
     ensures files_stay { (n : List ℕ) → F.held files.new n ≡ F.held files.old n }

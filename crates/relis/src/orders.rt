@@ -1,5 +1,5 @@
-ghost use Rattle.std.specs.Prelude.{◌≡◌, option_map};
-ghost use Rattle.relis.specs.Written.{order_as};
+ghost use Rattle.std.specs.Prelude.{◌≡◌, option_map, IfSome};
+ghost use Rattle.relis.specs.Written.{order_as, HasFewRounds};
 ghost use Rattle.relis.specs.Orders.{order_of, net_of, is_positional, drive_order, check_order};
 
 use rl_base::Args;
@@ -36,7 +36,8 @@ fn is_positional(word: &str) -> bool
 
 /// `check NET`.
 fn check_order<'a>(name: &str, net: &'a str) -> Option<Order<'a>>
-    ensures { option_map order_as result ≡ check_order name.now net.now }
+    ensures order { option_map order_as result ≡ check_order name.now net.now }
+    ensures few { IfSome result HasFewRounds }
 {
     if name == "check" && is_positional(net) {
         Some(Order::Check { net })
@@ -47,7 +48,8 @@ fn check_order<'a>(name: &str, net: &'a str) -> Option<Order<'a>>
 
 /// `drive NET N`.
 fn drive_order<'a>(name: &str, net: &'a str, n: &str) -> Option<Order<'a>>
-    ensures { option_map order_as result ≡ drive_order name.now net.now n.now }
+    ensures order { option_map order_as result ≡ drive_order name.now net.now n.now }
+    ensures few { IfSome result HasFewRounds }
 {
     if name != "drive" {
         return None;
@@ -63,7 +65,8 @@ fn drive_order<'a>(name: &str, net: &'a str, n: &str) -> Option<Order<'a>>
 
 /// The order that the words give, `None` where they are no written form.
 pub fn order_of(words: &Args) -> Option<Order<'_>>
-    ensures { option_map order_as result ≡ order_of words.now }
+    ensures order { option_map order_as result ≡ order_of words.now }
+    ensures few { IfSome result HasFewRounds }
 {
     match words.as_slice() {
         [name, net] => check_order(name.as_str(), net.as_str()),
