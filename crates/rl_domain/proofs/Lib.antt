@@ -8,3 +8,4 @@ pub mod Moved
 pub mod Apart
 pub mod Travels
 pub mod Holders
+pub mod Meetings

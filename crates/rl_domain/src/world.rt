@@ -74,6 +74,12 @@ impl World {
         Ok(())
     }
 
+    pub(crate) fn standings(&self) -> &[Standing]
+        ensures { result.now ≡ self.now.trains }
+    {
+        self.trains.as_slice()
+    }
+
     pub(crate) fn standing(&self, t: TrainId) -> Standing
         requires { t.0 < length self.now.trains }
         ensures { slice_get self.now.trains t.0 ≡ Some result }
