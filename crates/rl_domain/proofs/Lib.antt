@@ -9,3 +9,4 @@ pub mod Apart
 pub mod Travels
 pub mod Holders
 pub mod Meetings
+pub mod Rested

@@ -1,5 +1,5 @@
 -- Two trains meet by their standings exactly where the world is collided.
-use Rattle.std.proofs.Common.{◌≡◌, ℕ, ◌==◌, ◌≢◌, ◌↔◌, Bool, true, false, ◌&&◌, ◌||◌, List, [], ◌∷◌, slice_get, Option, Some, None, zero, suc, refl, sym, ap, ◌∙◌, arith, inl, inr}
+use Rattle.std.proofs.Common.{◌≡◌, ℕ, ◌==◌, ◌≢◌, ◌↔◌, Bool, true, false, ◌&&◌, List, [], ◌∷◌, slice_get, Option, Some, None, zero, suc, refl, sym, ap, ◌∙◌, arith, inl, inr}
 use Rattle.std.specs.Option.{option_map_or}
 use Rattle.std.specs.List.{list_any}
 use Rattle.std.proofs.lemmas.Bool.{eq-eqb, eqb-true, and_from, and_parts, or_cases, or_left, or_right, false≢true}
@@ -32,15 +32,15 @@ own_box y b p is at = rw is (and_from _ _ (and_from _ _ at (eq-eqb y.on.0 y.on.0
 meet_from : (x y : Standing) → meets x y ≡ true → Meet x y
 meet_from x y is =
     elim (or_cases (is_on_one_segment x y) (is_across_one_box x y) is) [
-      inl segment ↦
-        elim (or_cases (stands_on y.on.0 x) (option_map_or (λ (p : Passage). stands_on p.to.0 x) y.across false) segment) [
-          inl tail ↦ on_one y.on.0 tail (own_segment y) |
-          inr head ↦ let p = there (λ (p : Passage). stands_on p.to.0 x) y.across head in on_one p.0.to.0 p.2 (own_head y p.0 p.1)
-        ] |
-      inr box ↦
-        let p = there (λ (p : Passage). is_across p.b.0 x) y.across box in
-        let q = there (λ (q : Passage). p.0.b.0 == q.b.0) x.across p.2 in
-        at_one p.0.b.0 x.on.0 q.0.to.0 y.on.0 p.0.to.0 (own_box x p.0.b.0 q.0 q.1 q.2) (own_box y p.0.b.0 p.0 p.1 (eq-eqb p.0.b.0 p.0.b.0 refl))
+      | inl segment ↦
+          elim (or_cases (stands_on y.on.0 x) (option_map_or (λ (p : Passage). stands_on p.to.0 x) y.across false) segment) [
+            | inl tail ↦ on_one y.on.0 tail (own_segment y)
+            | inr head ↦ let p = there (λ (p : Passage). stands_on p.to.0 x) y.across head in on_one p.0.to.0 p.2 (own_head y p.0 p.1)
+          ]
+      | inr box ↦
+          let p = there (λ (p : Passage). is_across p.b.0 x) y.across box in
+          let q = there (λ (q : Passage). p.0.b.0 == q.b.0) x.across p.2 in
+          at_one p.0.b.0 x.on.0 q.0.to.0 y.on.0 p.0.to.0 (own_box x p.0.b.0 q.0 q.1 q.2) (own_box y p.0.b.0 p.0 p.1 (eq-eqb p.0.b.0 p.0.b.0 refl))
     ]
 
 across_at : (b from to : ℕ) (x : Standing) → stands_across b from to x ≡ true → (p : Passage) × (x.across ≡ Some p) × (b ≡ p.b.0)
@@ -52,11 +52,11 @@ across_at b from to x is =
 same_segment : (s : ℕ) (x y : Standing) → stands_on s x ≡ true → stands_on s y ≡ true → is_on_one_segment x y ≡ true
 same_segment s x y is too =
     elim (or_cases (s == y.on.0) (option_map_or (λ (p : Passage). s == p.to.0) y.across false) too) [
-      inl tail ↦ let on : stands_on y.on.0 x ≡ true = rw (← eqb-true s y.on.0 tail) is in or_left _ _ on |
-      inr head ↦
-        let p = there (λ (p : Passage). s == p.to.0) y.across head in
-        let on : stands_on p.0.to.0 x ≡ true = rw (← eqb-true s p.0.to.0 p.2) is in
-        rw p.1 (or_right _ _ on)
+      | inl tail ↦ let on : stands_on y.on.0 x ≡ true = rw (← eqb-true s y.on.0 tail) is in or_left _ _ on
+      | inr head ↦
+          let p = there (λ (p : Passage). s == p.to.0) y.across head in
+          let on : stands_on p.0.to.0 x ≡ true = rw (← eqb-true s p.0.to.0 p.2) is in
+          rw p.1 (or_right _ _ on)
     ]
 
 from_meet : (x y : Standing) → Meet x y → meets x y ≡ true
@@ -85,8 +85,8 @@ any_some : {A : Type 0} (p : A → Bool) (xs : List A) → list_any p xs ≡ tru
 any_some p [] is = absurd (false≢true is)
 any_some p (x ∷ xs) is =
     elim (or_cases (p x) (list_any p xs) is) [
-      inl here ↦ (zero, x, refl, here) |
-      inr later ↦ let more = any_some p xs later in (suc more.0, more.1, more.2, more.3)
+      | inl here ↦ (zero, x, refl, here)
+      | inr later ↦ let more = any_some p xs later in (suc more.0, more.1, more.2, more.3)
     ]
 
 any_from : {A : Type 0} (p : A → Bool) (xs : List A) (k : ℕ) (y : A) → slice_get xs k ≡ Some y → p y ≡ true → list_any p xs ≡ true
@@ -98,20 +98,30 @@ some_meet : (xs : List Standing) → any_meet xs ≡ true → SomeMeet xs
 some_meet [] is = absurd (false≢true is)
 some_meet (x ∷ xs) is =
     elim (or_cases (list_any (meets x) xs) (any_meet xs) is) [
-      inl here ↦
-        let other = any_some (meets x) xs here in
-        record {
-          i = zero; j = suc other.0; x = x; y = other.1;
-          apart = λ same. absurd (omega arith);
-          is = refl; too = other.2; meet = meet_from x other.1 other.3;
-        } |
-      inr later ↦
-        let more = some_meet xs later in
-        record {
-          i = suc more.i; j = suc more.j; x = more.x; y = more.y;
-          apart = λ same. more.apart (omega arith);
-          is = more.is; too = more.too; meet = more.meet;
-        }
+      | inl here ↦
+          let other = any_some (meets x) xs here in
+          record {
+            i = zero;
+            j = suc other.0;
+            x = x;
+            y = other.1;
+            apart = λ same. absurd (omega arith);
+            is = refl;
+            too = other.2;
+            meet = meet_from x other.1 other.3;
+          }
+      | inr later ↦
+          let more = some_meet xs later in
+          record {
+            i = suc more.i;
+            j = suc more.j;
+            x = more.x;
+            y = more.y;
+            apart = λ same. more.apart (omega arith);
+            is = more.is;
+            too = more.too;
+            meet = more.meet;
+          }
     ]
 
 from_some : (xs : List Standing) (i j : ℕ) (x y : Standing) → i ≢ j → slice_get xs i ≡ Some x → slice_get xs j ≡ Some y → Meet x y → any_meet xs ≡ true
@@ -140,6 +150,7 @@ meet_from_collided net tables (across_a_box t u b from to from2 to2 apart is too
     from_some tables.trains t u x.0 y.0 apart x.1 y.1 (at_one b from to from2 to2 x.2 y.2)
 
 pub collided_iff : (net : NetworkPlan) (tables : Tables) → (any_meet tables.trains ≡ true) ↔ Collided (world_of net tables)
-collided_iff net tables =
-    (λ is. let m = some_meet tables.trains is in collided_from net tables m.i m.j m.x m.y m.apart m.is m.too m.meet,
-     meet_from_collided net tables)
+collided_iff net tables = (
+  λ is. let m = some_meet tables.trains is in collided_from net tables m.i m.j m.x m.y m.apart m.is m.too m.meet,
+  meet_from_collided net tables,
+)

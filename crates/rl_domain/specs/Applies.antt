@@ -1,5 +1,5 @@
 -- What a test of a move's guards answers, and which moves are of a network.
-use Rattle.std.specs.Prelude.{ℕ, ◌<◌, length, Result, MatchResult}
+use Rattle.std.specs.Prelude.{◌<◌, length, Result, MatchResult}
 use Rattle.rl_base.specs.declared.ids.BoxId.{BoxId}
 use Rattle.rl_base.specs.declared.ids.SegId.{SegId}
 use Rattle.rl_base.specs.declared.ids.TrainId.{TrainId}

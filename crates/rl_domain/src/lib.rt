@@ -10,6 +10,7 @@ mod changes;
 mod facts;
 mod guards;
 mod queries;
+mod rests;
 mod safety;
 mod starts;
 pub mod tables;
