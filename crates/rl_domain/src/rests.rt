@@ -41,6 +41,7 @@ impl World {
         requires at { IsBoxOf net.now b }
         ensures { IsTrue result ↔ KeepsOnly net.now self.now t.0 s.0 b.0 }
     {
+        // What acceptance gave, for the proof.
         let _boxes = net.boxes();
         let state = self.state(b);
         !is_lock_of(t, state.lock) && keeps_arms(net, &state, t, s, b)
