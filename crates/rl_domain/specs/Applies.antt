@@ -1,4 +1,4 @@
--- What a test of a move's guards answers, and which moves are of a network.
+-- What a test of the guards of a move answers.
 use Rattle.std.specs.Prelude.{Result, MatchResult}
 use Rattle.rl_model.specs.Moves.{Guards, AllHold, FirstFails}
 use Rattle.rl_domain.specs.declared.world.Guard.{Guard}
