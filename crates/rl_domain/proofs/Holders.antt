@@ -1,5 +1,5 @@
 -- Who holds a segment and who has a lock, read off the tables.
-use Rattle.std.proofs.Common.{◌≡◌, ◌<◌, ℕ, Bool, true, false, length, slice_get, Option, Some, None, IfSome, IfNone, IsTrue, refl, sym, ap, ◌∙◌, arith}
+use Rattle.std.proofs.Common.{◌≡◌, ℕ, true, false, slice_get, Option, Some, None, IfSome, IfNone, IsTrue, refl, arith}
 use Rattle.std.proofs.lemmas.Bool.Decides.{nat_tests}
 use Rattle.rl_base.specs.declared.ids.TrainId.{TrainId}
 use Rattle.rl_model.specs.declared.network.NetworkPlan.{NetworkPlan}

@@ -8,3 +8,5 @@ pub mod Moved
 pub mod Apart
 pub mod Travels
 pub mod Holders
+pub mod Meetings
+pub mod Rested

@@ -1,5 +1,5 @@
 -- Look-ups in a list by number: after a push, and after a write.
-use Rattle.std.proofs.Common.{◌≡◌, ℕ, ◌+◌, ◌<◌, ◌≤◌, ◌==◌, Bool, true, false, cond, List, [], ◌∷◌, ◌++◌, length, slice_get, slice_set, Option, Some, None, refl, sym, ap, ◌∙◌, arith, zero, suc, inl, inr}
+use Rattle.std.proofs.Common.{◌≡◌, ℕ, ◌<◌, ◌==◌, false, cond, List, [], ◌∷◌, ◌++◌, length, slice_get, slice_set, Some, refl, ap, arith, zero, suc, inl, inr}
 use Rattle.std.specs.Option.{option_map_or}
 use Rattle.std.proofs.lemmas.Bool.{ne_eqb, cases_eq}
 use Rattle.std.proofs.lemmas.Bool.Decides.{nat_tests}
@@ -53,8 +53,8 @@ get_set_other (x ∷ xs) (suc i) (suc j) y other = get_set_other xs i j y (λ sa
 pub look_kept : {A B : Type 0} (f : A → B) (xs : List A) (i j : ℕ) (a y : A) (d : B) → slice_get xs i ≡ Some a → f y ≡ f a → option_map_or f (slice_get (slice_set xs i y) j) d ≡ option_map_or f (slice_get xs j) d
 look_kept f xs i j a y d is keeps =
     elim (cases_eq j i) [
-      inl same ↦ rw (same, get_set_same xs i a y is, is) keeps |
-      inr other ↦ rw (get_set_other xs i j y other) refl
+      | inl same ↦ rw (same, get_set_same xs i a y is, is) keeps
+      | inr other ↦ rw (get_set_other xs i j y other) refl
     ]
 
 -- what holds at 0, 1, 2 and 3 holds below 4

@@ -1,11 +1,10 @@
 -- What the look-ups in the tables mean for the world: each test holds exactly where its sentence does.
-use Rattle.std.proofs.Common.{◌≡◌, ℕ, ◌<◌, ◌==◌, ◌↔◌, Bool, true, false, not, ◌&&◌, length, slice_get, Option, Some, None, is_some, is_none, IsTrue, refl, sym, ap, ◌∙◌, arith, inl, inr}
+use Rattle.std.proofs.Common.{◌≡◌, ℕ, ◌==◌, ◌↔◌, Bool, true, false, not, ◌&&◌, Option, Some, None, is_some, is_none, IsTrue, refl, sym, ◌∙◌, inl, inr}
 use Rattle.std.specs.Option.{option_map_or}
 use Rattle.std.proofs.lemmas.Bool.{eq-eqb, eqb-true, and_from, and_parts, and_left, false_from_ne_true, false≢true, true≢false}
 use Rattle.std.proofs.lemmas.Option.{slice_get_cases}
 use Rattle.rl_base.specs.declared.ids.TrainId.{TrainId}
 use Rattle.rl_model.specs.declared.network.NetworkPlan.{NetworkPlan}
-use Rattle.rl_domain.specs.declared.tables.BoxState.{BoxState}
 use Rattle.rl_domain.specs.declared.tables.PathLock.{PathLock}
 use Rattle.rl_domain.specs.declared.tables.Passage.{Passage}
 use Rattle.rl_domain.specs.declared.tables.Standing.{Standing}
@@ -45,9 +44,10 @@ locked_iff (Some l) = (λ is. (l.t.0, l.s.0, l.s2.0, own_lock l), λ some. refl)
 
 pub lock_of_iff : (t : ℕ) (o : Option PathLock) → (is_lock_of t o ≡ true) ↔ ((from : ℕ) × (to : ℕ) × IsTrue (is_lock t from to o))
 lock_of_iff t None = (λ is. absurd (false≢true is), λ some. absurd (false≢true some.2))
-lock_of_iff t (Some l) =
-    (λ is. (l.s.0, l.s2.0, and_from _ _ (and_from _ _ is (eq-eqb l.s.0 l.s.0 refl)) (eq-eqb l.s2.0 l.s2.0 refl)),
-     λ some. let parts = lock_parts l t some.0 some.1 some.2 in eq-eqb t l.t.0 parts.0)
+lock_of_iff t (Some l) = (
+  λ is. (l.s.0, l.s2.0, and_from _ _ (and_from _ _ is (eq-eqb l.s.0 l.s.0 refl)) (eq-eqb l.s2.0 l.s2.0 refl)),
+  λ some. let parts = lock_parts l t some.0 some.1 some.2 in eq-eqb t l.t.0 parts.0,
+)
 
 pub no_lock : (o : Option PathLock) → ((u from to : ℕ) → is_lock u from to o ≡ false) → o ≡ None
 no_lock None isnt = refl
@@ -55,9 +55,10 @@ no_lock (Some l) isnt = absurd (true≢false (sym (own_lock l) ∙ isnt l.t.0 l.
 
 -- a test of the one locked path, and of each locked path
 pub locked_path_iff : (l : PathLock) (test : ℕ → ℕ → Bool) (answer : Bool) → (test l.s.0 l.s2.0 ≡ answer) ↔ ((u from to : ℕ) → is_lock u from to (Some l) ≡ true → test from to ≡ answer)
-locked_path_iff l test answer =
-    (λ is u from to at. let parts = lock_parts l u from to at in rw (parts.1, parts.2) is,
-     λ all. all l.t.0 l.s.0 l.s2.0 (own_lock l))
+locked_path_iff l test answer = (
+  λ is u from to at. let parts = lock_parts l u from to at in rw (parts.1, parts.2) is,
+  λ all. all l.t.0 l.s.0 l.s2.0 (own_lock l),
+)
 
 pub not_iff : (b : Bool) → (not b ≡ true) ↔ (b ≡ false)
 not_iff true = (λ is. absurd (false≢true is), λ is. absurd (true≢false is))
@@ -69,24 +70,27 @@ pub ↔_trans : {P Q R : Type 0} → (P ↔ Q) → (Q ↔ R) → P ↔ R
 -- a passage from segment on, over box b or over any
 passage_off_iff : (b on : ℕ) (o : Option Passage) → (option_map_or (λ (p : Passage). b == p.b.0) o false ≡ false) ↔ ((from to : ℕ) → option_map_or (λ (p : Passage). b == p.b.0 && from == on && to == p.to.0) o false ≡ false)
 passage_off_iff b on None = (λ isnt from to. refl, λ all. refl)
-passage_off_iff b on (Some p) =
-    (λ isnt from to. and_left _ _ (and_left _ _ isnt),
-     λ all. false_from_ne_true _ (λ is. let own = and_from _ _ (and_from _ _ is (eq-eqb on on refl)) (eq-eqb p.to.0 p.to.0 refl) in true≢false (sym own ∙ all on p.to.0)))
+passage_off_iff b on (Some p) = (
+  λ isnt from to. and_left _ _ (and_left _ _ isnt),
+  λ all. false_from_ne_true _ (λ is. let own = and_from _ _ (and_from _ _ is (eq-eqb on on refl)) (eq-eqb p.to.0 p.to.0 refl) in true≢false (sym own ∙ all on p.to.0)),
+)
 
 passage_none_iff : (on : ℕ) (o : Option Passage) → (is_none o ≡ true) ↔ ((b from to : ℕ) → option_map_or (λ (p : Passage). b == p.b.0 && from == on && to == p.to.0) o false ≡ false)
 passage_none_iff on None = (λ is b from to. refl, λ all. refl)
-passage_none_iff on (Some p) =
-    (λ is. absurd (false≢true is),
-     λ all. let own = and_from _ _ (and_from _ _ (eq-eqb p.b.0 p.b.0 refl) (eq-eqb on on refl)) (eq-eqb p.to.0 p.to.0 refl) in absurd (true≢false (sym own ∙ all p.b.0 on p.to.0)))
+passage_none_iff on (Some p) = (
+  λ is. absurd (false≢true is),
+  λ all. let own = and_from _ _ (and_from _ _ (eq-eqb p.b.0 p.b.0 refl) (eq-eqb on on refl)) (eq-eqb p.to.0 p.to.0 refl) in absurd (true≢false (sym own ∙ all p.b.0 on p.to.0)),
+)
 
 passage_from_iff : (s on : ℕ) (o : Option Passage) → ((s == on && is_some o) ≡ true) ↔ ((b : ℕ) × (to : ℕ) × IsTrue (option_map_or (λ (p : Passage). b == p.b.0 && s == on && to == p.to.0) o false))
 passage_from_iff s on None =
     (λ is. absurd (false≢true (and_parts (s == on) false is).1), λ some. absurd (false≢true some.2))
-passage_from_iff s on (Some p) =
-    (λ is. (p.b.0, p.to.0, and_from _ _ (and_from _ _ (eq-eqb p.b.0 p.b.0 refl) (and_parts (s == on) true is).0) (eq-eqb p.to.0 p.to.0 refl)),
-     λ some.
-       let first = and_parts (some.0 == p.b.0 && s == on) (some.1 == p.to.0) some.2 in
-       and_from _ _ (and_parts (some.0 == p.b.0) (s == on) first.0).1 refl)
+passage_from_iff s on (Some p) = (
+  λ is. (p.b.0, p.to.0, and_from _ _ (and_from _ _ (eq-eqb p.b.0 p.b.0 refl) (and_parts (s == on) true is).0) (eq-eqb p.to.0 p.to.0 refl)),
+  λ some.
+      let first = and_parts (some.0 == p.b.0 && s == on) (some.1 == p.to.0) some.2 in
+      and_from _ _ (and_parts (some.0 == p.b.0) (s == on) first.0).1 refl,
+)
 
 -- the standings of a train: across a box, across none, and from which segment
 pub off_iff : (b : ℕ) (x : Standing) → (is_across b x ≡ false) ↔ ((from to : ℕ) → stands_across b from to x ≡ false)
@@ -102,8 +106,8 @@ from_iff s x = passage_from_iff s x.on.0 x.across
 pub lock_in_range : (net : NetworkPlan) (tables : Tables) (b : ℕ) (l : PathLock) → Fits net tables → lock_of tables b ≡ Some l → IsLock net l
 lock_in_range net tables b l fits is =
     elim (slice_get_cases tables.boxes b).1 [
-      inl here ↦ (fits.states b here.0 here.2).lock l (rw here.2 at is) |
-      inr out ↦ let none = rw out.1 at is in absurd (cc)
+      | inl here ↦ (fits.states b here.0 here.2).lock l (rw here.2 at is)
+      | inr out ↦ let none = rw out.1 at is in absurd (cc)
     ]
 
 pub iff_at : {P : Type 0} (r s : Bool) → r ≡ s → ((s ≡ true) ↔ P) → (r ≡ true) ↔ P
@@ -131,3 +135,7 @@ pub from_parts : (s : ℕ) (x : Standing) → ((b : ℕ) × (to : ℕ) × IsTrue
 from_parts s x some =
     let both = and_parts (s == x.on.0) (is_some x.across) ((from_iff s x).1 some) in
     (eqb-true s x.on.0 both.0, some_from x.across both.1)
+
+pub none_at : {A : Type 0} (o : Option A) → is_some o ≡ false → is_none o ≡ true
+none_at None is = refl
+none_at (Some x) is = absurd (true≢false is)

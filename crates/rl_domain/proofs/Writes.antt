@@ -1,9 +1,7 @@
 -- What a write into the state of one box changes, and that the tables still fit.
-use Rattle.std.proofs.Common.{◌≡◌, ℕ, ◌<◌, ◌≤◌, ◌==◌, Bool, true, false, length, slice_get, slice_set, Option, Some, None, is_some, IsTrue, refl, sym, ap, ◌∙◌, arith, ◌⊎◌, inl, inr, length-set}
-use Rattle.std.specs.Option.{option_map_or}
+use Rattle.std.proofs.Common.{◌≡◌, ℕ, ◌<◌, length, slice_get, slice_set, Option, Some, None, refl, sym, ap, ◌∙◌, arith, inl, inr, length-set}
 use Rattle.std.proofs.lemmas.Bool.{cases_eq, cases_lt, ne_eqb}
-use Rattle.std.proofs.lemmas.Option.{slice_get_cases, same_Some, none-some}
-use Rattle.rl_base.specs.Kind.{arms_of}
+use Rattle.std.proofs.lemmas.Option.{same_Some}
 use Rattle.rl_base.specs.declared.ids.TrainId.{TrainId}
 use Rattle.rl_model.specs.declared.moves.Points.{Points}
 use Rattle.rl_model.specs.declared.moves.Points.TheVariants as points
@@ -13,7 +11,7 @@ use Rattle.rl_domain.specs.declared.tables.BoxState.{BoxState}
 use Rattle.rl_domain.specs.declared.tables.PathLock.{PathLock}
 use Rattle.rl_domain.specs.declared.tables.Standing.{Standing}
 use Rattle.rl_domain.specs.States.{holder_at, with_holder}
-use Rattle.rl_domain.specs.Tables.{Tables, holder_of, lock_of, points_of, Fits, IsState, IsLock, IsStanding}
+use Rattle.rl_domain.specs.Tables.{Tables, holder_of, Fits, IsState, IsStanding}
 use Rattle.rl_domain.specs.Changes.{ChangesHolder, ChangesLock, ChangesPoints}
 use Rattle.rl_domain.proofs.Arms.{IsAtArm, IsAtArm-from_arm, arms_few, holder_past_arms, option_cases}
 use Rattle.rl_domain.proofs.Lookups.{get_set_same, get_set_other, look_kept, each_set, below_four}
@@ -47,8 +45,8 @@ train_fits net tables t standing fits is =
 holders_kept : (net : NetworkPlan) (tables : Tables) (b y z : ℕ) (old new : BoxState) → slice_get tables.boxes b ≡ Some old → ((x : ℕ) → holder_at new x ≡ holder_at old x) → holder_of net (box_set tables b new) y z ≡ holder_of net tables y z
 holders_kept net tables b y z old new is keeps =
     elim (option_cases (arm_of net y z)) [
-      inl none ↦ rw none refl |
-      inr some ↦ rw some.1 (look_kept (λ state. holder_at state some.0) tables.boxes b z old new None is (keeps some.0))
+      | inl none ↦ rw none refl
+      | inr some ↦ rw some.1 (look_kept (λ state. holder_at state some.0) tables.boxes b z old new None is (keeps some.0))
     ]
 
 pub lock_changes : (tables : Tables) (b : ℕ) (old : BoxState) (lock : Option PathLock) → slice_get tables.boxes b ≡ Some old → ChangesLock tables (box_set tables b (record old { lock = lock })) b lock
@@ -77,13 +75,13 @@ holder_same state i holder few = below_four (λ x. holder_at (with_holder state 
 holder_other_few : (state : BoxState) (i : ℕ) (holder : Option TrainId) (j : ℕ) → j < 4 → (i ≡ j → ⊥) → holder_at (with_holder state i holder) j ≡ holder_at state j
 holder_other_few state i holder j few =
     below_four (λ x. (i ≡ x → ⊥) → holder_at (with_holder state i holder) x ≡ holder_at state x)
-      (λ other. rw (ne_eqb i 0 other) refl) (λ other. rw (ne_eqb i 1 other) refl) (λ other. rw (ne_eqb i 2 other) refl) (λ other. rw (ne_eqb i 3 other) refl) j few
+    (λ other. rw (ne_eqb i 0 other) refl) (λ other. rw (ne_eqb i 1 other) refl) (λ other. rw (ne_eqb i 2 other) refl) (λ other. rw (ne_eqb i 3 other) refl) j few
 
 holder_other : (state : BoxState) (i : ℕ) (holder : Option TrainId) (j : ℕ) → (j ≡ i → ⊥) → holder_at (with_holder state i holder) j ≡ holder_at state j
 holder_other state i holder j other =
     elim (cases_lt j 4) [
-      inl few ↦ holder_other_few state i holder j few (λ same. other (sym same)) |
-      inr many ↦ holder_past_arms (with_holder state i holder) j many ∙ sym (holder_past_arms state j many)
+      | inl few ↦ holder_other_few state i holder j few (λ same. other (sym same))
+      | inr many ↦ holder_past_arms (with_holder state i holder) j many ∙ sym (holder_past_arms state j many)
     ]
 
 at_arm_few : (net : NetworkPlan) (s b i : ℕ) → IsAtArm net s b i → i < 4
@@ -97,11 +95,11 @@ same_segment net s y b i network is too =
 holder_of_other : (net : NetworkPlan) (tables : Tables) (s b i y : ℕ) (old : BoxState) (holder : Option TrainId) → IsNetwork net → arm_of net s b ≡ Some i → slice_get tables.boxes b ≡ Some old → (y ≡ s → ⊥) → holder_of net (box_set tables b (with_holder old i holder)) y b ≡ holder_of net tables y b
 holder_of_other net tables s b i y old holder network arm is other =
     elim (option_cases (arm_of net y b)) [
-      inl none ↦ rw none refl |
-      inr some ↦
-        let apart : some.0 ≡ i → ⊥ = λ same. other (same_segment net s y b i network arm (some.1 ∙ ap Some same)) in
-        rw some.1
-        (look_kept (λ state. holder_at state some.0) tables.boxes b b old (with_holder old i holder) None is (holder_other old i holder some.0 apart))
+      | inl none ↦ rw none refl
+      | inr some ↦
+          let apart : some.0 ≡ i → ⊥ = λ same. other (same_segment net s y b i network arm (some.1 ∙ ap Some same)) in
+          rw some.1
+          (look_kept (λ state. holder_at state some.0) tables.boxes b b old (with_holder old i holder) None is (holder_other old i holder some.0 apart))
     ]
 
 pub holder_changes : (net : NetworkPlan) (tables : Tables) (s b i : ℕ) (old : BoxState) (holder : Option TrainId) → IsNetwork net → arm_of net s b ≡ Some i → slice_get tables.boxes b ≡ Some old → ChangesHolder net tables (box_set tables b (with_holder old i holder)) s b holder
@@ -109,14 +107,14 @@ holder_changes net tables s b i old holder network arm is =
     record {
       trains = refl;
       changed =
-        rw arm
-        (rw (get_set_same tables.boxes b old (with_holder old i holder) is)
+          rw arm
+          (rw (get_set_same tables.boxes b old (with_holder old i holder) is)
           (holder_same old i holder (at_arm_few net s b i (IsAtArm-from_arm net s b i network arm))));
       others = λ y z other.
-        elim (cases_eq z b) [
-          inl same ↦ rw same (holder_of_other net tables s b i y old holder network arm is (λ y_is. other (y_is, same))) |
-          inr apart ↦ rw (get_set_other tables.boxes b z (with_holder old i holder) apart) refl
-        ];
+          elim (cases_eq z b) [
+            | inl same ↦ rw same (holder_of_other net tables s b i y old holder network arm is (λ y_is. other (y_is, same)))
+            | inr apart ↦ rw (get_set_other tables.boxes b z (with_holder old i holder) apart) refl
+          ];
       locks = λ z. look_kept (λ (x : BoxState). x.lock) tables.boxes b z old (with_holder old i holder) None is refl;
       points = λ z. look_kept (λ (x : BoxState). x.points) tables.boxes b z old (with_holder old i holder) points.Left is refl;
     }
@@ -127,9 +125,9 @@ holder_state net s b i old holder network arm within fits =
     record {
       lock = fits.lock;
       holders = λ j u is.
-        elim (cases_eq j i) [
-          inl same ↦ within u (sym (holder_same old i holder (at_arm_few net s b i at)) ∙ (rw same at is)) |
-          inr other ↦ fits.holders j u (sym (holder_other old i holder j other) ∙ is)
-        ];
+          elim (cases_eq j i) [
+            | inl same ↦ within u (sym (holder_same old i holder (at_arm_few net s b i at)) ∙ (rw same at is))
+            | inr other ↦ fits.holders j u (sym (holder_other old i holder j other) ∙ is)
+          ];
       free = λ j past. holder_other old i holder j (λ same. let arm_in = at.arm in omega arith) ∙ fits.free j past;
     }

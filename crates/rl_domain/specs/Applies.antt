@@ -1,11 +1,5 @@
--- What a test of a move's guards answers, and which moves are of a network.
-use Rattle.std.specs.Prelude.{ℕ, ◌<◌, length, Result, MatchResult}
-use Rattle.rl_base.specs.declared.ids.BoxId.{BoxId}
-use Rattle.rl_base.specs.declared.ids.SegId.{SegId}
-use Rattle.rl_base.specs.declared.ids.TrainId.{TrainId}
-use Rattle.rl_model.specs.declared.moves.Move.{Move}
-use Rattle.rl_model.specs.declared.moves.Move.TheVariants.{Reserve, Release, Lock, Unlock, Throw, Settle, Enter, Leave, Refuse, Bar}
-use Rattle.rl_model.specs.declared.network.NetworkPlan.{NetworkPlan}
+-- What a test of the guards of a move answers.
+use Rattle.std.specs.Prelude.{Result, MatchResult}
 use Rattle.rl_model.specs.Moves.{Guards, AllHold, FirstFails}
 use Rattle.rl_domain.specs.declared.world.Guard.{Guard}
 

@@ -3,3 +3,4 @@ pub mod Tables
 pub mod Starts
 pub mod Applies
 pub mod Changes
+pub mod Rests

@@ -1,5 +1,6 @@
 -- A train's standing and a box's state, each read by itself.
-use Rattle.std.specs.Prelude.{ℕ, ◌==◌, Bool, false, ◌&&◌, ◌||◌, Option, None, is_some, if◌then◌else◌}
+use Rattle.std.specs.Prelude.{ℕ, ◌==◌, Bool, false, ◌&&◌, ◌||◌, Option, None, is_some, if◌then◌else◌, List, [], ◌∷◌}
+use Rattle.std.specs.List.{list_any}
 use Rattle.std.specs.Option.{option_map_or}
 use Rattle.rl_base.specs.declared.ids.TrainId.{TrainId}
 use Rattle.rl_domain.specs.declared.tables.PathLock.{PathLock}
@@ -51,3 +52,18 @@ is_across b standing = option_map_or (λ (p : Passage). b == p.b.0) standing.acr
 -- a train that stands so is across a box, and comes from segment s
 abbrev pub comes_from : ℕ → Standing → Bool
 comes_from s standing = s == standing.on.0 && is_some standing.across
+
+-- two trains that stand so are on one segment, or across one box
+abbrev pub is_on_one_segment : Standing → Standing → Bool
+is_on_one_segment x y = stands_on y.on.0 x || option_map_or (λ (p : Passage). stands_on p.to.0 x) y.across false
+
+abbrev pub is_across_one_box : Standing → Standing → Bool
+is_across_one_box x y = option_map_or (λ (p : Passage). is_across p.b.0 x) y.across false
+
+abbrev pub meets : Standing → Standing → Bool
+meets x y = is_on_one_segment x y || is_across_one_box x y
+
+-- some two of the trains meet
+abbrev pub any_meet : List Standing → Bool
+any_meet [] = false
+any_meet (x ∷ xs) = list_any (meets x) xs || any_meet xs

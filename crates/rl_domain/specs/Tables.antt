@@ -14,6 +14,7 @@ use Rattle.rl_domain.specs.declared.tables.Passage.{Passage}
 use Rattle.rl_domain.specs.declared.tables.Standing.{Standing}
 use Rattle.rl_domain.specs.States.{is_train, is_lock, holder_at, stands_on, stands_across}
 
+-- what contracts see of a `World`
 pub record Tables : Type 0 where
   pub trains : List Standing
   pub boxes : List BoxState

@@ -77,7 +77,14 @@ impl World {
         let standing = self.standing(t);
         if let Some(passage) = standing.across {
             let made = standing.made + 1;
-            self.put_standing(t, Standing { made, on: passage.to, across: None });
+            self.put_standing(
+                t,
+                Standing {
+                    made,
+                    on: passage.to,
+                    across: None,
+                },
+            );
         }
     }
 

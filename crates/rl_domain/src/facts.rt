@@ -111,6 +111,7 @@ impl World {
         requires segment { IsSegmentOf net.now s }
         ensures { result ≡ holds_ends (world_of net.now self.now) net.now t.0 s.0 }
     {
+        // What acceptance gave, for the proof.
         let _segments = net.segments();
         let ((low, _), (high, _)) = net.ends(s);
         self.holds(net, t, s, low) && self.holds(net, t, s, high)

@@ -41,7 +41,14 @@ impl World {
         guard(5, self.is_away(t, s))
     }
 
-    fn test_lock(&self, net: &Network, t: TrainId, b: BoxId, s: SegId, s2: SegId) -> Result<(), Guard>
+    fn test_lock(
+        &self,
+        net: &Network,
+        t: TrainId,
+        b: BoxId,
+        s: SegId,
+        s2: SegId,
+    ) -> Result<(), Guard>
         requires fits { Fits net.now self.now }
         requires at { IsBoxOf net.now b }
         requires from { IsSegmentOf net.now s }
@@ -82,7 +89,14 @@ impl World {
         guard(15, self.side_fits_lock(net, b, side))
     }
 
-    fn test_enter(&self, net: &Network, t: TrainId, b: BoxId, s: SegId, s2: SegId) -> Result<(), Guard>
+    fn test_enter(
+        &self,
+        net: &Network,
+        t: TrainId,
+        b: BoxId,
+        s: SegId,
+        s2: SegId,
+    ) -> Result<(), Guard>
         requires fits { Fits net.now self.now }
         requires train { IsTrainOf net.now t }
         requires at { IsBoxOf net.now b }
@@ -105,7 +119,14 @@ impl World {
         guard(21, self.comes_from(t, s))
     }
 
-    fn test_refuse(&self, net: &Network, t: TrainId, s: SegId, b: BoxId, u: TrainId) -> Result<(), Guard>
+    fn test_refuse(
+        &self,
+        net: &Network,
+        t: TrainId,
+        s: SegId,
+        b: BoxId,
+        u: TrainId,
+    ) -> Result<(), Guard>
         requires fits { Fits net.now self.now }
         requires segment { IsSegmentOf net.now s }
         requires at { IsBoxOf net.now b }

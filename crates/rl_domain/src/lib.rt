@@ -10,9 +10,11 @@ mod changes;
 mod facts;
 mod guards;
 mod queries;
+mod rests;
+mod safety;
 mod starts;
-pub mod tables;
-pub mod world;
+mod tables;
+mod world;
 
 pub use rl_model::{Move, Moves, Points};
 pub use tables::{BoxState, PathLock};

@@ -1,5 +1,5 @@
 ghost use Rattle.std.specs.Prelude.{◌≡◌};
-ghost use Rattle.rl_domain.specs.States.{holder_at, with_holder, is_train, is_lock, is_lock_of, stands_on, is_across, comes_from};
+ghost use Rattle.rl_domain.specs.States.{holder_at, with_holder, is_train, is_lock, is_lock_of, stands_on, is_across, comes_from, is_on_one_segment, is_across_one_box, meets};
 
 use rl_base::{Arm, BoxId, SegId, TrainId};
 use rl_model::Points;
@@ -89,6 +89,25 @@ impl Standing {
         ensures { result ≡ comes_from s.0 self.now }
     {
         s == self.on && self.across.is_some()
+    }
+
+    fn is_on_one_segment(&self, other: &Standing) -> bool
+        ensures { result ≡ is_on_one_segment self.now other.now }
+    {
+        self.is_on(other.on) || other.across.is_some_and(|p| self.is_on(p.to))
+    }
+
+    fn is_across_one_box(&self, other: &Standing) -> bool
+        ensures { result ≡ is_across_one_box self.now other.now }
+    {
+        other.across.is_some_and(|p| self.is_across(p.b))
+    }
+
+    /// Whether two trains that stand so are on one segment, or across one box.
+    pub(crate) fn meets(&self, other: &Standing) -> bool
+        ensures { result ≡ meets self.now other.now }
+    {
+        self.is_on_one_segment(other) || self.is_across_one_box(other)
     }
 }
 

@@ -43,6 +43,7 @@ impl World {
         ensures fits { IfOk result (Fits net.now) }
         ensures kept { IfOk result (λ w. IsKept net.now (world_of net.now w)) }
     {
+        // The law of the moves, and what acceptance gave, for the proof.
         safe_runs();
         let _trains = net.trains();
         let trains = first_standings(alloc, net)?;
@@ -50,7 +51,7 @@ impl World {
         Ok(World { trains, boxes })
     }
 
-    /// Makes the move where every guard of it holds. Else it names the first that fails, and nothing changes.
+    /// Makes the move where every guard of it holds, and else names the first that fails. It takes no memory.
     pub fn apply(&mut self, net: &Network, m: &Move) -> Result<(), Guard>
         requires fits { Fits net.now self.old }
         requires of { IsMoveOf net.now m.now }
@@ -67,11 +68,18 @@ impl World {
         ensures kept { IsKept net.now (world_of net.now self.old)
             → IsKept net.now (world_of net.now self.new) }
     {
+        // The law of the moves, and what acceptance gave, for the proof.
         safe_runs();
         let _trains = net.trains();
         self.test(net, m)?;
         self.change(net, m);
         Ok(())
+    }
+
+    pub(crate) fn standings(&self) -> &[Standing]
+        ensures { result.now ≡ self.now.trains }
+    {
+        self.trains.as_slice()
     }
 
     pub(crate) fn standing(&self, t: TrainId) -> Standing

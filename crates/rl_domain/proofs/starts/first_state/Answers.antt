@@ -1,7 +1,4 @@
-use Rattle.std.proofs.Common.{◌≡◌, ℕ, ◌<◌, refl}
-use Rattle.rl_model.specs.Network.{segment_at}
-use Rattle.rl_domain.specs.States.{holder_at}
-use Rattle.rl_domain.specs.Starts.{IsStarter}
+use Rattle.std.proofs.Common.{refl}
 use Rattle.rl_domain.proofs.Lookups.{below_four}
 use Rattle.rl_domain.proofs.starts.first_state.Goals as goal
 

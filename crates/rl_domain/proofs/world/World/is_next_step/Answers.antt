@@ -1,4 +1,4 @@
-use Rattle.std.proofs.Common.{◌<◌, arith, false}
+use Rattle.std.proofs.Common.{◌<◌, arith}
 use Rattle.std.proofs.lemmas.Bool.Decides.{nat_tests}
 use Rattle.rl_model.specs.Network.{steps_of}
 use Rattle.rl_domain.proofs.world.World.is_next_step.Goals as goal

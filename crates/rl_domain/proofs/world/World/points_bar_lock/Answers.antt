@@ -19,4 +19,4 @@ returns-in-Some c =
     let same = c.points_connect.ensures ∙ ap (points_connect net c.args.b.0 c.in-Some.l.s.0 c.in-Some.l.s2.0) c.points.ensures in
     rw (← c.in-Some.ensures)
     (↔_trans (iff_at _ _ (ap not same) (not_iff _))
-      (locked_path_iff c.in-Some.l (λ from to. points_connect net c.args.b.0 from to points) false))
+    (locked_path_iff c.in-Some.l (λ from to. points_connect net c.args.b.0 from to points) false))

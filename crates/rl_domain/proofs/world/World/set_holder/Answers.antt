@@ -11,5 +11,5 @@ pub returns-clause-fits : goal.returns-clause-fits
 returns-clause-fits c =
     rw (c.put_state.ensures, c.with_holder.ensures)
     (box_fits c.args.net.now c.args.self.now c.args.b.0 _ c.requires.fits
-      (holder_state c.args.net.now c.args.s.0 c.args.b.0 c.in-Some.x.0 c.state.result c.args.holder c.requires.network (sym c.in-Some.ensures) c.requires.train
-        (c.requires.fits.states c.args.b.0 c.state.result c.state.ensures)))
+    (holder_state c.args.net.now c.args.s.0 c.args.b.0 c.in-Some.x.0 c.state.result c.args.holder c.requires.network (sym c.in-Some.ensures) c.requires.train
+    (c.requires.fits.states c.args.b.0 c.state.result c.state.ensures)))

@@ -15,4 +15,4 @@ pub returns-in-Some : goal.returns-in-Some
 returns-in-Some c =
     rw (← c.in-Some.ensures)
     (iff_at _ _ c.connects.ensures
-      (locked_path_iff c.in-Some.l (λ from to. connects c.args.net.now c.args.b.0 from to c.args.side) true))
+    (locked_path_iff c.in-Some.l (λ from to. connects c.args.net.now c.args.b.0 from to c.args.side) true))
