@@ -9,9 +9,9 @@
 mod arms;
 pub mod check;
 mod counts;
-mod names;
 mod ends;
 mod fits;
+mod names;
 pub mod network;
 mod plan;
 pub mod refusal;
