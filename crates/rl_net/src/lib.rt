@@ -6,8 +6,8 @@
 //! trains that move, or what a box answers.
 #![tactic(auto)]
 
+mod acceptance;
 mod arms;
-pub mod check;
 mod counts;
 mod ends;
 mod fits;
@@ -20,5 +20,6 @@ mod sides;
 mod starts;
 mod twice;
 
+pub use acceptance::check;
 pub use network::Network;
 pub use refusal::NetRefusal;

@@ -1,4 +1,4 @@
-use Rattle.std.proofs.Common.{◌≡◌, true, false, take, bytes_eq, arith, sym, ap, ◌∙◌, add-one, zero-add, append_assoc, append-nil, ◌++◌}
+use Rattle.std.proofs.Common.{◌≡◌, true, false, bytes_eq, arith, sym, ap, ◌∙◌, add-one, zero-add, append_assoc, append-nil, ◌++◌}
 use Rattle.rl_net.specs.Ends.{ends_kept}
 use Rattle.rl_net.proofs.EndLists.{ends_in_box_more}
 use Rattle.rl_net.proofs.ends.and_of_box.Goals as goal

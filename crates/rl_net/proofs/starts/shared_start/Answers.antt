@@ -1,5 +1,4 @@
-use Rattle.std.proofs.Common.{◌≡◌, true, false, slice_get, Some, sym, ◌∙◌}
-use Rattle.rl_model.specs.Refusals.{is_start, starts_below}
+use Rattle.std.proofs.Common.{◌≡◌, slice_get, Some, sym}
 use Rattle.rl_net.proofs.Passages.{start_is_shared, start_is_own, no_start}
 use Rattle.rl_net.proofs.starts.shared_start.Goals as goal
 use Rattle.rl_net.proofs.starts.shared_start.Goals.{else-not-is_empty-via-then-not-is_empty+else-is_start_of_earlier, else-not-is_empty-via-else-not-is_empty}

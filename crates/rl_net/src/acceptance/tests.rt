@@ -3,7 +3,8 @@ ghost use Rattle.std.specs.List.{list_all};
 ghost use Rattle.rl_base.specs.Draft.{HasNames};
 ghost use Rattle.rl_base.specs.Name.{is_name};
 
-use crate::check::check;
+use crate::acceptance::check;
+use crate::network::Network;
 use rl_base::{
     Arm, BoxId, Draft, DraftBox, DraftBoxes, DraftTrain, DraftTrains, Kind, Name, Names, NoMemory,
     SegId, Side, TrainId, name_ok,
@@ -16,39 +17,36 @@ use std::test::Fail;
 /// each word after it is a box or a train: the kind, the name, and the arms or the route. The kinds are
 /// buffer, joint, crossing and train; a point without a side and one that stands at left or right; and a
 /// buffer to which a side is given.
-const CASES: [(&str, &str); 25] = [
-    ("", "accepted 0 0 0"),
-    ("AB bWA jJAB bEB", "accepted 2 3 0"),
-    ("AB bWA jJAB bEB tTAJB", "accepted 2 3 1"),
-    ("AB bWA jJAB bEB tTAJBJA tUB", "accepted 2 3 2"),
-    ("SLR bWS lPSLR bEL bFR tTSPR", "accepted 3 4 1"),
-    ("ABCD cXABCD bEA bFB bGC bHD tTAXB tUDXC", "accepted 4 5 2"),
-    ("ABA bWA jJAB bEB", "Twice(Segment(2))"),
-    ("AB bWA jJAB bEB jJAB", "Twice(BoxName(3))"),
-    ("AB bWA jJAB bEB jXA tTA tTB", "Twice(TrainName(1))"),
-    ("AB bWA jJAB bEB jXA", "ArmCount(BoxArms(3))"),
-    ("AB bWA jJAB bEC", "NoSegment(BoxArm(2, 0))"),
-    ("AB bWA jJAA bEB", "SameBox(BoxArm(1, 1))"),
-    ("AB bWA jJAB tTAJB", "Ends(Segment(1))"),
-    ("AB bWA jJAB bEB bFB tTAJB", "Ends(Segment(1))"),
-    ("ABC bWA jJAB bEB", "Ends(Segment(2))"),
-    ("AB bWA jJAB sEB", "At(BoxSide(2))"),
-    ("SLR bWS pPSLR bEL bFR", "At(BoxSide(1))"),
-    ("AB bWA jJAB bEB tT", "RouteShape(TrainRoute(0))"),
-    ("AB bWA jJAB bEB tTA tUBJ", "RouteShape(TrainRoute(1))"),
-    ("AB bWA jJAB bEB tTABB", "RouteName(RouteItem(0, 1))"),
-    ("AB bWA jJAB bEB tTAJW", "RouteName(RouteItem(0, 2))"),
-    ("SLR bWS lPSLR bEL bFR tTLPR", "RouteFit(RouteItem(0, 1))"),
-    ("AB bWA jJAB bEB tTAJBEA", "RouteFit(RouteItem(0, 3))"),
-    (
-        "ABCD cXABCD bEA bFB bGC bHD tTAXC",
-        "RouteFit(RouteItem(0, 1))",
-    ),
-    ("AB bWA jJAB bEB tTAJB tUA", "StartShared(RouteItem(1, 0))"),
-];
+const CASES: &str = "\
+AB bWA jJAB bEB = accepted 2 3 0
+AB bWA jJAB bEB tTAJB = accepted 2 3 1
+AB bWA jJAB bEB tTAJBJA tUB = accepted 2 3 2
+SLR bWS lPSLR bEL bFR tTSPR = accepted 3 4 1
+ABCD cXABCD bEA bFB bGC bHD tTAXB tUDXC = accepted 4 5 2
+ABA bWA jJAB bEB = Twice(Segment(2))
+AB bWA jJAB bEB jJAB = Twice(BoxName(3))
+AB bWA jJAB bEB jXA tTA tTB = Twice(TrainName(1))
+AB bWA jJAB bEB jXA = ArmCount(BoxArms(3))
+AB bWA jJAB bEC = NoSegment(BoxArm(2, 0))
+AB bWA jJAA bEB = SameBox(BoxArm(1, 1))
+AB bWA jJAB tTAJB = Ends(Segment(1))
+AB bWA jJAB bEB bFB tTAJB = Ends(Segment(1))
+ABC bWA jJAB bEB = Ends(Segment(2))
+AB bWA jJAB sEB = At(BoxSide(2))
+SLR bWS pPSLR bEL bFR = At(BoxSide(1))
+AB bWA jJAB bEB tT = RouteShape(TrainRoute(0))
+AB bWA jJAB bEB tTA tUBJ = RouteShape(TrainRoute(1))
+AB bWA jJAB bEB tTABB = RouteName(RouteItem(0, 1))
+AB bWA jJAB bEB tTAJW = RouteName(RouteItem(0, 2))
+SLR bWS lPSLR bEL bFR tTLPR = RouteFit(RouteItem(0, 1))
+AB bWA jJAB bEB tTAJBEA = RouteFit(RouteItem(0, 3))
+ABCD cXABCD bEA bFB bGC bHD tTAXC = RouteFit(RouteItem(0, 1))
+AB bWA jJAB bEB tTAJB tUA = StartShared(RouteItem(1, 0))
+";
 
 /// Drafts with a piece that is repeated so many times, and what `check` answers.
-const LARGE_CASES: [(&str, &str, u32, &str, &str); 8] = [
+const LARGE_CASES: [(&str, &str, u32, &str, &str); 9] = [
+    ("", "", 0, "", "accepted 0 0 0"),
     ("", "A", 256, "", "Twice(Segment(1))"),
     ("", "A", 257, " bWA", "Count(Segments)"),
     ("A", " bWA", 128, "", "Twice(BoxName(1))"),
@@ -199,38 +197,54 @@ fn repeated(
     Ok(text)
 }
 
+/// Asserts that `check` answers so.
+fn expect_answer(rt: &impl Abort, alloc: Global, text: &str, want: &str) -> Result<(), NoMemory> {
+    let got = answer(rt, alloc, text)?;
+    assert_eq!(rt; got.as_str(), want, "{text}");
+    Ok(())
+}
+
+fn expect_line(rt: &impl Abort, alloc: Global, line: &str) -> Result<(), NoMemory> {
+    let (text, want) = line.split_once(" = ").unwrap_or((line, ""));
+    expect_answer(rt, alloc, text, want)
+}
+
 #[test]
 fn accepts_or_names_the_first_refusal(rt: HostRuntime) -> Result<(), Fail> {
-    for (text, want) in CASES {
-        let got = answer(&rt, rt.alloc(), text)?;
-        assert_eq!(rt; got.as_str(), want, "{text}");
-    }
-    for (before, piece, count, after, want) in LARGE_CASES {
-        let text = repeated(rt.alloc(), before, piece, count, after)?;
-        let got = answer(&rt, rt.alloc(), text.as_str())?;
-        assert_eq!(rt; got.as_str(), want, "{before}{piece} {count}");
+    for line in CASES.lines() {
+        expect_line(&rt, rt.alloc(), line)?;
     }
     Ok(())
 }
 
 #[test]
-fn numbers_what_it_accepts(rt: HostRuntime) -> Result<(), Fail> {
+fn counts_before_all_else(rt: HostRuntime) -> Result<(), Fail> {
+    for (before, piece, count, after, want) in LARGE_CASES {
+        let text = repeated(rt.alloc(), before, piece, count, after)?;
+        expect_answer(&rt, rt.alloc(), text.as_str(), want)?;
+    }
+    Ok(())
+}
+
+/// Whether the first train of a fork turns right, from the stem in segment 0 to the branch in segment 2.
+fn turns_right(net: &Network) -> bool {
+    let (stem, right, p, t) = (SegId(0), SegId(2), BoxId(1), TrainId(0));
+    if net.segments() < 3 || net.boxes() < 4 || net.trains() < 1 || net.steps(t) < 1 {
+        return false;
+    }
+    net.ends(right) == ((p, Arm(2)), (BoxId(3), Arm(0)))
+        && net.start_side(p) == Side::Left
+        && net.side_for(p, stem, right) == Some(Side::Right)
+        && net.route_seg(t, 1) == right
+        && net.route_box(t, 0) == p
+}
+
+#[test]
+fn numbers_by_place(rt: HostRuntime) -> Result<(), Fail> {
     let draft = draft_of(rt.alloc(), "SLR bWS lPSLR bEL bFR tTSPR")?;
     let named = has_names(&draft);
     assert!(rt; named);
     let net = check(rt.alloc(), draft)?;
-    assert_eq!(rt; net.segments(), 3);
-    assert_eq!(rt; net.boxes(), 4);
-    assert_eq!(rt; net.trains(), 1);
-    let (p, right, t) = (BoxId(1), SegId(2), TrainId(0));
-    assert_eq!(rt; net.ends(right), ((p, Arm(2)), (BoxId(3), Arm(0))));
-    assert_eq!(rt; net.kind(p), Kind::Point);
-    assert_eq!(rt; net.start_side(p), Side::Left);
-    assert_eq!(rt; net.arm(p, Arm(1)), Some(SegId(1)));
-    assert_eq!(rt; net.side_for(p, SegId(0), right), Some(Side::Right));
-    assert_eq!(rt; net.steps(t), 1);
-    assert_eq!(rt; net.route_seg(t, 1), right);
-    assert_eq!(rt; net.route_box(t, 0), p);
-    assert_eq!(rt; net.box_name(BoxId(2)), b"E".as_slice());
+    assert!(rt; turns_right(&net));
     Ok(())
 }
