@@ -1,5 +1,5 @@
 -- The ends of a segment, one arm and one box more.
-use Rattle.std.proofs.Common.{◌≡◌, ℕ, zero, suc, ◌+◌, ◌<◌, Bool, true, false, cond, List, [], ◌∷◌, ◌++◌, length, take, get_or, refl, sym, ap, ◌∙◌, arith, add-zero, append-nil, append_assoc, bytes_eq, if◌then◌else◌}
+use Rattle.std.proofs.Common.{◌≡◌, ℕ, zero, suc, ◌+◌, ◌<◌, Bool, true, false, cond, List, [], ◌∷◌, ◌++◌, length, take, get_or, refl, sym, ap, arith, add-zero, append-nil, append_assoc, bytes_eq, if◌then◌else◌}
 use Rattle.rl_base.specs.declared.draft.DraftBox.{DraftBox}
 use Rattle.rl_model.specs.declared.network.SegmentEnd.{SegmentEnd}
 use Rattle.rl_model.specs.Drafts.{end_at, ends_in_box, ends_from}

@@ -1,5 +1,5 @@
 -- The place of a name among the names of a list, found item by item.
-use Rattle.std.proofs.Common.{◌≡◌, ℕ, zero, suc, ◌+◌, ◌<◌, Bool, true, false, cond, List, [], ◌∷◌, length, take, map, get_or, slice_get, Option, Some, None, is_some, option_map, refl, sym, ap, ◌∙◌, arith, bytes_eq}
+use Rattle.std.proofs.Common.{◌≡◌, ℕ, zero, suc, ◌<◌, Bool, true, false, cond, List, [], ◌∷◌, length, take, map, get_or, slice_get, Option, Some, None, is_some, option_map, refl, ap, ◌∙◌, arith, bytes_eq}
 use Rattle.std.proofs.lemmas.List.{take-map}
 use Rattle.std.proofs.lemmas.Option.{slice_get-map, slice_get_read}
 use Rattle.rl_model.specs.Drafts.{number_in}

@@ -1,6 +1,6 @@
 -- What the box at a place of a route connects, and where routes start.
-use Rattle.std.proofs.Common.{◌≡◌, ℕ, zero, suc, ◌+◌, ◌-◌, ◌<◌, Bool, true, false, cond, eqb, List, [], ◌∷◌, length, map, take, slice_get, Option, Some, None, option_map, refl, sym, ap, ◌∙◌, arith, bytes_eq}
-use Rattle.std.specs.Option.{option_and_then, option_map_or}
+use Rattle.std.proofs.Common.{◌≡◌, ℕ, zero, suc, ◌+◌, ◌-◌, ◌<◌, Bool, true, false, cond, eqb, List, [], ◌∷◌, map, slice_get, Option, Some, None, option_map, refl, sym, ap, ◌∙◌, arith, bytes_eq}
+use Rattle.std.specs.Option.{option_and_then}
 use Rattle.std.specs.List.{find, list_any}
 use Rattle.std.proofs.lemmas.Option.{slice_get_within}
 use Rattle.std.proofs.lemmas.Bool.Decides.{nat_tests}

@@ -1,5 +1,5 @@
 -- The first place that a search finds, worked out place by place.
-use Rattle.std.proofs.Common.{◌≡◌, ℕ, zero, suc, ◌+◌, ◌<◌, ◌≤◌, Bool, true, false, cond, Option, Some, None, ◌⊎◌, inl, inr, ⊎_elim, refl, sym, ap, ◌∙◌, subst, arith, add-one}
+use Rattle.std.proofs.Common.{◌≡◌, ℕ, zero, suc, ◌<◌, ◌≤◌, Bool, true, false, cond, Option, Some, None, ⊎_elim, refl, subst, arith}
 use Rattle.std.proofs.lemmas.Bool.{cases_lt}
 use Rattle.std.specs.Option.{option_or}
 use Rattle.rl_base.specs.declared.place.Place.{Place}
@@ -20,10 +20,10 @@ first_below_found f i (suc n) p before here lt =
     ⊎_elim
     (λ (l : i < n). rw (first_below_found f i n p before here l) refl)
     (λ (l : n ≤ i).
-        let e : i ≡ n = omega arith in
-        let no : first_below f n ≡ None = subst (λ (m : ℕ). first_below f m ≡ None) e before in
-        let yes : f n ≡ Some p = subst (λ (m : ℕ). f m ≡ Some p) e here in
-        rw (no, yes) refl)
+    let e : i ≡ n = omega arith in
+    let no : first_below f n ≡ None = subst (λ (m : ℕ). first_below f m ≡ None) e before in
+    let yes : f n ≡ Some p = subst (λ (m : ℕ). f m ≡ Some p) e here in
+    rw (no, yes) refl)
     (cases_lt i n)
 
 -- the same for a search by a test

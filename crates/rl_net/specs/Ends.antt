@@ -1,5 +1,5 @@
 -- What is kept of the ends of a segment while they are counted.
-use Rattle.std.specs.Prelude.{ℕ, List, slice_get, is_some, slice_index_or}
+use Rattle.std.specs.Prelude.{List, slice_get, is_some}
 use Rattle.rl_model.specs.declared.network.SegmentEnd.{SegmentEnd}
 use Rattle.rl_net.specs.declared.ends.Ends.{Ends}
 

@@ -7,8 +7,11 @@ ghost use Rattle.rl_net.specs.Sizes.{HasFewItems};
 use rl_base::{Draft, Place};
 
 const MAX_SEGMENTS: usize = 256;
+
 const MAX_BOXES: usize = 128;
+
 const MAX_TRAINS: usize = 32;
+
 const MAX_ROUTE: usize = 129;
 
 fn is_route_too_long(draft: &Draft, i: usize) -> bool

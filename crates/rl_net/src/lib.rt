@@ -6,12 +6,12 @@
 //! trains that move, or what a box answers.
 #![tactic(auto)]
 
+mod acceptance;
 mod arms;
-pub mod check;
 mod counts;
-mod names;
 mod ends;
 mod fits;
+mod names;
 pub mod network;
 mod plan;
 pub mod refusal;
@@ -20,5 +20,6 @@ mod sides;
 mod starts;
 mod twice;
 
+pub use acceptance::check;
 pub use network::Network;
 pub use refusal::NetRefusal;

@@ -5,7 +5,9 @@ ghost use Rattle.rl_net.specs.Sizes.{HasFewItems, HasFewArms};
 use crate::ends::ends_named;
 use crate::names::{box_number_of, number_among};
 use rl_base::{BoxId, Draft, DraftBox, DraftTrain, Name, Names, NoMemory, SegId, Sequence, Side};
-use rl_model::{BoxIds, NetworkPlan, SegIds, Segment, Segments, SwitchBox, SwitchBoxes, Train, Trains};
+use rl_model::{
+    BoxIds, NetworkPlan, SegIds, Segment, Segments, SwitchBox, SwitchBoxes, Train, Trains,
+};
 use std::alloc::Global;
 
 /// The number of the segment of that name, 0 where there is none.

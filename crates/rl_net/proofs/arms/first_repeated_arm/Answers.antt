@@ -1,6 +1,6 @@
-use Rattle.std.proofs.Common.{length, arith, sym}
+use Rattle.std.proofs.Common.{arith, sym}
 use Rattle.rl_base.specs.declared.place.Place.TheVariants.{BoxArm}
-use Rattle.rl_model.specs.Refusals.{SameBox, breaks, arms_at, route_length}
+use Rattle.rl_model.specs.Refusals.{SameBox, breaks, arms_at}
 use Rattle.rl_net.proofs.Few.{arms_at_box}
 use Rattle.rl_net.proofs.Search.{tried_found}
 use Rattle.rl_net.proofs.arms.first_repeated_arm.Goals as goal

@@ -1,4 +1,4 @@
-use Rattle.std.proofs.Common.{◌≡◌, ℕ, None}
+use Rattle.std.proofs.Common.{◌≡◌, None}
 use Rattle.rl_base.specs.declared.place.Place.TheVariants.{BoxArm}
 use Rattle.rl_model.specs.Refusals.{SameBox, broken_at, first_below}
 use Rattle.rl_net.proofs.arms.first_repeated_arm.Given as goal

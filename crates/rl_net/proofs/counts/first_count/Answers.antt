@@ -1,4 +1,4 @@
-use Rattle.std.proofs.Common.{◌≡◌, None, arith, sym, ◌∙◌}
+use Rattle.std.proofs.Common.{arith, sym, ◌∙◌}
 use Rattle.rl_net.proofs.Few.{routes_short}
 use Rattle.rl_net.proofs.counts.first_count.Goals as goal
 

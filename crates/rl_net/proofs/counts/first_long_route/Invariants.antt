@@ -1,4 +1,4 @@
-use Rattle.std.proofs.Common.{◌≡◌, ℕ, None}
+use Rattle.std.proofs.Common.{◌≡◌, None}
 use Rattle.rl_base.specs.declared.place.Place.TheVariants.{TrainRoute}
 use Rattle.rl_model.specs.Refusals.{Count, broken_at, first_below}
 use Rattle.rl_net.proofs.counts.first_long_route.Given as goal

@@ -1,5 +1,4 @@
-use Rattle.std.proofs.Common.{◌≡◌, take, arith, sym, ap, ◌∙◌, add-one, zero-add}
-use Rattle.rl_model.specs.Drafts.{ends_from}
+use Rattle.std.proofs.Common.{arith, sym, ap, ◌∙◌, add-one, zero-add}
 use Rattle.rl_net.specs.Ends.{ends_kept}
 use Rattle.rl_net.proofs.EndLists.{ends_from_more}
 use Rattle.rl_net.proofs.ends.ends_named.Goals as goal

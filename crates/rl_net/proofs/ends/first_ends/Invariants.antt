@@ -1,4 +1,4 @@
-use Rattle.std.proofs.Common.{◌≡◌, ℕ, None}
+use Rattle.std.proofs.Common.{◌≡◌, None}
 use Rattle.rl_base.specs.declared.place.Place.TheVariants.{Segment}
 use Rattle.rl_model.specs.Refusals.{Ends, broken_at, first_below}
 use Rattle.rl_net.proofs.ends.first_ends.Given as goal

@@ -1,4 +1,4 @@
-use Rattle.std.proofs.Common.{length, arith, sym}
+use Rattle.std.proofs.Common.{arith, sym}
 use Rattle.rl_base.specs.declared.place.Place.TheVariants.{RouteItem}
 use Rattle.rl_model.specs.Refusals.{RouteFit, breaks, route_length}
 use Rattle.rl_net.proofs.Few.{route_length_train}

@@ -1,6 +1,6 @@
 use Rattle.std.proofs.Common.{length, arith, sym}
 use Rattle.rl_base.specs.declared.place.Place.TheVariants.{TrainRoute}
-use Rattle.rl_model.specs.Refusals.{RouteShape, breaks, arms_at, route_length}
+use Rattle.rl_model.specs.Refusals.{RouteShape, breaks}
 use Rattle.rl_net.proofs.Search.{tried_found}
 use Rattle.rl_net.proofs.routes.first_route_shape.Goals as goal
 

@@ -1,6 +1,6 @@
-use Rattle.std.proofs.Common.{length, arith, sym}
+use Rattle.std.proofs.Common.{arith, sym}
 use Rattle.rl_base.specs.declared.place.Place.TheVariants.{RouteItem}
-use Rattle.rl_model.specs.Refusals.{RouteName, breaks, arms_at, route_length}
+use Rattle.rl_model.specs.Refusals.{RouteName, breaks, route_length}
 use Rattle.rl_net.proofs.Few.{route_length_train}
 use Rattle.rl_net.proofs.Search.{tried_found}
 use Rattle.rl_net.proofs.routes.first_wrong_name.Goals as goal

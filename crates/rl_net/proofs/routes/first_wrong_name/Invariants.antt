@@ -1,4 +1,4 @@
-use Rattle.std.proofs.Common.{◌≡◌, ℕ, None}
+use Rattle.std.proofs.Common.{◌≡◌, None}
 use Rattle.rl_base.specs.declared.place.Place.TheVariants.{RouteItem}
 use Rattle.rl_model.specs.Refusals.{RouteName, broken_at, first_below}
 use Rattle.rl_net.proofs.routes.first_wrong_name.Given as goal

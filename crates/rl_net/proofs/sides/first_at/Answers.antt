@@ -1,6 +1,6 @@
 use Rattle.std.proofs.Common.{length, arith, sym}
 use Rattle.rl_base.specs.declared.place.Place.TheVariants.{BoxSide}
-use Rattle.rl_model.specs.Refusals.{At, breaks, arms_at, route_length}
+use Rattle.rl_model.specs.Refusals.{At, breaks}
 use Rattle.rl_net.proofs.Search.{tried_found}
 use Rattle.rl_net.proofs.sides.first_at.Goals as goal
 

@@ -1,4 +1,4 @@
-use Rattle.std.proofs.Common.{◌≡◌, ℕ, None}
+use Rattle.std.proofs.Common.{◌≡◌, None}
 use Rattle.rl_base.specs.declared.place.Place.TheVariants.{BoxName}
 use Rattle.rl_model.specs.Refusals.{Twice, broken_at, first_below}
 use Rattle.rl_net.proofs.twice.first_box_twice.Given as goal

@@ -1,6 +1,6 @@
 use Rattle.std.proofs.Common.{length, arith, sym}
 use Rattle.rl_base.specs.declared.place.Place.TheVariants.{Segment}
-use Rattle.rl_model.specs.Refusals.{Twice, breaks, arms_at, route_length}
+use Rattle.rl_model.specs.Refusals.{Twice, breaks}
 use Rattle.rl_net.proofs.Search.{tried_found}
 use Rattle.rl_net.proofs.twice.first_segment_twice.Goals as goal
 

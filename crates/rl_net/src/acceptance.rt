@@ -78,3 +78,6 @@ pub fn check(alloc: Global, draft: Draft) -> Result<Network, NetRefusal>
         }
     }
 }
+
+#[cfg(test)]
+mod tests;
