@@ -1,5 +1,5 @@
 -- A draft in which no condition on names holds has names.
-use Rattle.std.proofs.Common.{◌≡◌, ℕ, ◌+◌, Bool, true, false, not, cond, ◌&&◌, List, [], ◌∷◌, ◌++◌, Option, Some, None, refl, ap, ◌∙◌}
+use Rattle.std.proofs.Common.{◌≡◌, ℕ, ◌+◌, Bool, true, false, not, cond, List, [], ◌∷◌, ◌++◌, Option, Some, None, refl, ap, ◌∙◌}
 use Rattle.std.proofs.lemmas.Bool.{and_from, and_parts}
 use Rattle.std.specs.List.{list_all}
 use Rattle.rl_base.specs.Draft.{HasNames}
@@ -66,7 +66,7 @@ HasNames-from_first d h =
       boxes = of_boxes.0;
       arms = of_boxes.1;
       trains = of_trains.0;
-      routes = of_trains.1
+      routes = of_trains.1;
     }
 
 -- and where all are names, no condition holds

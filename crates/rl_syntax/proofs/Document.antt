@@ -4,7 +4,7 @@ use Rattle.std.specs.Str.{IsUtf8, is_utf8}
 use Rattle.std.proofs.lemmas.Str.{IsUtf8-from_is_utf8}
 use Rattle.toml.specs.Data.{Members}
 use Rattle.toml.specs.Parse.{parse_document}
-use Rattle.rl_syntax.specs.Answer.{document}
+use Rattle.rl_syntax.specs.Document.{document}
 
 none_of_both : (b : Bool) (o : Option Members) → (b ≡ true → o ≡ None) → cond b o None ≡ None
 none_of_both true o h = h refl

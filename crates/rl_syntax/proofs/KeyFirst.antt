@@ -1,6 +1,5 @@
 -- A reading stops at the place of the first condition that holds.
-use Rattle.std.proofs.Common.{◌≡◌, ℕ, ◌+◌, codes, Bool, true, false, not, cond, is_none, List, [], ◌∷◌, ◌++◌, length, Option, Some, None, Ok, Err, option_and_then, refl, ap, sym, ◌∙◌, append_assoc, length-append}
-use Rattle.rl_base.specs.declared.draft.Draft.{Draft}
+use Rattle.std.proofs.Common.{◌≡◌, ℕ, ◌+◌, codes, Bool, true, false, not, cond, List, [], ◌∷◌, ◌++◌, length, Option, Some, None, Ok, Err, option_and_then, refl, ap, sym, ◌∙◌, append_assoc, length-append}
 use Rattle.rl_base.specs.declared.place.Place.{Place}
 use Rattle.rl_base.specs.declared.place.Place.TheVariants.{Top, Format, Segments, Boxes, BoxItem, BoxName, BoxKind, BoxArms, BoxSide, Trains, TrainItem, TrainName, TrainRoute}
 use Rattle.rl_syntax.specs.declared.names.NameList.{NameList}

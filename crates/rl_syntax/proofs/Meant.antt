@@ -2,13 +2,13 @@
 use Rattle.std.proofs.Common.{◌≡◌, ℕ, ◌<◌, ◌≤◌, nat_lt, Bool, true, false, cond, List, length, Option, Some, None, Result, Ok, Err, IfOk, refl, ap, sym, subst, ◌∙◌, arith}
 use Rattle.std.proofs.lemmas.Bool.Decides.{nat_tests}
 use Rattle.std.proofs.lemmas.Str.{IsUtf8-from_is_utf8, is_utf8-from_IsUtf8}
-use Rattle.std.specs.Str.{IsUtf8, is_utf8}
+use Rattle.std.specs.Str.{is_utf8}
 use Rattle.rl_base.specs.Draft.{HasNames}
 use Rattle.rl_base.specs.declared.draft.Draft.{Draft}
 use Rattle.rl_base.specs.declared.place.Place.{Place}
-use Rattle.rl_syntax.specs.Answer.{document, unless_bad, of_reading, of_document, answer_to, UnlessMemory}
+use Rattle.rl_syntax.specs.Answer.{unless_bad, of_reading, of_document, answer_to, UnlessMemory}
 use Rattle.rl_syntax.specs.Condition.{first}
-use Rattle.rl_syntax.specs.KeyConditions.{key_conditions}
+use Rattle.rl_syntax.specs.Document.{document}
 use Rattle.rl_syntax.specs.Meaning.{IsDocument, HasDraft, Means}
 use Rattle.rl_syntax.specs.NameConditions.{name_conditions}
 use Rattle.rl_syntax.specs.Network.{draft_of}

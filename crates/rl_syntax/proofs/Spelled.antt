@@ -1,6 +1,5 @@
 -- What is read from a table stands in it.
-use Rattle.std.proofs.Common.{◌≡◌, ℕ, ◌+◌, codes, Bool, true, false, cond, List, [], ◌∷◌, ◌++◌, length, Option, Some, None, Ok, Err, option_and_then, option_map, refl, ap, sym, ◌∙◌, append_assoc, append-nil, length-append, subst, bytes_eq, Result}
-use Rattle.std.specs.Bool.{Decides}
+use Rattle.std.proofs.Common.{◌≡◌, ℕ, ◌+◌, codes, Bool, true, false, cond, List, [], ◌∷◌, ◌++◌, length, Option, Some, None, Ok, Err, option_and_then, option_map, refl, ap, sym, ◌∙◌, append_assoc, append-nil, length-append, subst, bytes_eq}
 use Rattle.std.proofs.lemmas.Slice.Eq.{bytes_eq-Decides}
 use Rattle.rl_base.specs.declared.draft.Draft.{Draft}
 use Rattle.rl_base.specs.declared.draft.DraftBox.{DraftBox}
@@ -10,7 +9,7 @@ use Rattle.rl_base.specs.declared.kind.Kind.TheVariants.{Buffer, Joint, Point, C
 use Rattle.rl_base.specs.declared.kind.Side.{Side}
 use Rattle.rl_base.specs.declared.kind.Side.TheVariants.{Left, Right}
 use Rattle.rl_base.specs.declared.place.Place.{Place}
-use Rattle.rl_base.specs.declared.place.Place.TheVariants.{Top, Format, Segments, Boxes, BoxItem, BoxName, BoxKind, BoxArms, BoxSide, Trains, TrainItem, TrainName, TrainRoute}
+use Rattle.rl_base.specs.declared.place.Place.TheVariants.{Top, Format, Segments, Boxes, BoxItem, BoxName, BoxKind, BoxSide, Trains, TrainItem, TrainName}
 use Rattle.rl_syntax.specs.declared.keys.Keys.{Keys}
 use Rattle.rl_syntax.specs.declared.names.NameList.{NameList}
 use Rattle.rl_syntax.specs.declared.names.NameList.TheVariants as lists
@@ -160,7 +159,7 @@ box_says i m b h =
       name = name_stands (BoxName i) (codes "name") m name name_ok;
       kind = kind_stands (BoxKind i) (codes "kind") m kind kind_ok;
       arms = needed_names_stand (lists.Arms i) (codes "arms") m arms arms_ok;
-      at = side_stands (BoxSide i) (get_member (codes "at") m) side side_ok
+      at = side_stands (BoxSide i) (get_member (codes "at") m) side side_ok;
     })
 
 train_says : (i : ℕ) (m : Members) (t : DraftTrain) → train_of i m ≡ Ok t → SaysTrain m t
@@ -171,7 +170,7 @@ train_says i m t h =
     let is : record { name = name; route = route } ≡ t = cc in
     subst (SaysTrain m) is (record {
       name = name_stands (TrainName i) (codes "name") m name name_ok;
-      route = needed_names_stand (lists.Route i) (codes "route") m route route_ok
+      route = needed_names_stand (lists.Route i) (codes "route") m route route_ok;
     })
 
 -- a table with known keys is a table
@@ -198,16 +197,16 @@ boxes_say : (ds : Items) (bs : List DraftBox) → boxes_of ds ≡ Ok bs → SayE
 unfolding boxes_of
 boxes_say ds bs h =
     each_says SaysBox box_in (λ i d b read.
-      let (m, found, rest) = bind_ok (needed (BoxItem i) (table_with keys.Box d)) (box_of i) b read in
-      (m, known_is keys.Box d m (needed_ok (BoxItem i) (table_with keys.Box d) m found), box_says i m b rest))
+    let (m, found, rest) = bind_ok (needed (BoxItem i) (table_with keys.Box d)) (box_of i) b read in
+    (m, known_is keys.Box d m (needed_ok (BoxItem i) (table_with keys.Box d) m found), box_says i m b rest))
     0 ds bs (each_from_none box_in ds bs h)
 
 trains_say : (ds : Items) (ts : List DraftTrain) → trains_of ds ≡ Ok ts → SayEach SaysTrain ds ts
 unfolding trains_of
 trains_say ds ts h =
     each_says SaysTrain train_in (λ i d t read.
-      let (m, found, rest) = bind_ok (needed (TrainItem i) (table_with keys.Train d)) (train_of i) t read in
-      (m, known_is keys.Train d m (needed_ok (TrainItem i) (table_with keys.Train d) m found), train_says i m t rest))
+    let (m, found, rest) = bind_ok (needed (TrainItem i) (table_with keys.Train d)) (train_of i) t read in
+    (m, known_is keys.Train d m (needed_ok (TrainItem i) (table_with keys.Train d) m found), train_says i m t rest))
     0 ds ts (each_from_none train_in ds ts h)
 
 -- an array that was read, or was left out
@@ -228,7 +227,7 @@ lists_say m d h =
     subst (SaysDraft m) is (record {
       segments = array_has Segments (names_of lists.Segments) segments _ (λ ds. names_stand lists.Segments ds segments) (get_member (codes "segments") m) segments_ok;
       boxes = array_has Boxes boxes_of boxes _ (λ ds. boxes_say ds boxes) (get_member (codes "box") m) boxes_ok;
-      trains = array_has Trains trains_of trains _ (λ ds. trains_say ds trains) (get_member (codes "train") m) trains_ok
+      trains = array_has Trains trains_of trains _ (λ ds. trains_say ds trains) (get_member (codes "train") m) trains_ok;
     })
 
 guarded : (a b : Bool) (p q : Place) (r : Read Draft) (d : Draft) → cond a (Err p) (cond b r (Err q)) ≡ Ok d → r ≡ Ok d

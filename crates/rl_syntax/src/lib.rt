@@ -5,8 +5,8 @@
 #![tactic(auto)]
 
 mod boxes;
+mod draft_names;
 mod keys;
-mod named;
 mod names;
 mod network;
 mod read;

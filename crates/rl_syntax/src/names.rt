@@ -53,7 +53,11 @@ pub(crate) fn number(i: usize) -> Result<u32, SyntaxRefusal>
 }
 
 /// The name that stands at a place, where a text does.
-pub(crate) fn name_at(alloc: Global, place: Place, text: Option<&str>) -> Result<Name, SyntaxRefusal>
+pub(crate) fn name_at(
+    alloc: Global,
+    place: Place,
+    text: Option<&str>,
+) -> Result<Name, SyntaxRefusal>
     ensures { Reads result (needed place (option_map (λ s. s.now) text.entry)) }
 {
     match text {
@@ -64,7 +68,11 @@ pub(crate) fn name_at(alloc: Global, place: Place, text: Option<&str>) -> Result
 
 /// The names of an array, in order.
 #[tactic(auto, unfolding(crate::specs::Network::names_of), using(crate::proofs::Items::steps))]
-pub(crate) fn names_of(alloc: Global, list: NameList, items: &[Value]) -> Result<Names, SyntaxRefusal>
+pub(crate) fn names_of(
+    alloc: Global,
+    list: NameList,
+    items: &[Value],
+) -> Result<Names, SyntaxRefusal>
     ensures { Reads result (names_of list (items_view items.now)) }
 {
     let mut names = Names::new(alloc);

@@ -3,10 +3,11 @@ ghost use Rattle.rl_base.specs.declared.draft.Draft.{Draft};
 ghost use Rattle.rl_syntax.specs.declared.refusal.SyntaxRefusal.{SyntaxRefusal};
 ghost use Rattle.rl_base.specs.Draft.{HasNames};
 ghost use Rattle.toml.specs.View.{table_view};
-ghost use Rattle.rl_syntax.specs.Answer.{document, answer_to, UnlessMemory, Parses};
+ghost use Rattle.rl_syntax.specs.Answer.{answer_to, UnlessMemory};
+ghost use Rattle.rl_syntax.specs.Document.{document, Parses};
 ghost use Rattle.rl_syntax.specs.Meaning.{Means};
 
-use crate::named::test_draft;
+use crate::draft_names::test_draft;
 use crate::network::draft_of;
 use crate::refusal::SyntaxRefusal;
 use rl_base::Draft;

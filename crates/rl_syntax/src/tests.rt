@@ -70,7 +70,15 @@ box = [{ name = "P", kind = "point", arms = [], at = "right" }, { name = "X", ki
     let draft = read_draft(rt.alloc(), points.as_bytes())?;
     assert_eq!(rt; draft.boxes.len(), 2);
     assert!(rt; is_box(draft.boxes.at(0), "P", Kind::Point, &[], Some(Side::Right)));
-    assert!(rt; is_box(draft.boxes.at(1), "X", Kind::Crossing, &[], Some(Side::Left)));
+    assert!(rt;
+        is_box(
+            draft.boxes.at(1),
+            "X",
+            Kind::Crossing,
+            &[],
+            Some(Side::Left)
+        )
+    );
     Ok(())
 }
 
@@ -85,13 +93,34 @@ fn answers_the_first_refusal(rt: HostRuntime) {
         ("format = ", Some(SyntaxRefusal::NotToml)),
         ("format = 1\nformat = 1", Some(SyntaxRefusal::NotToml)),
         ("colour = 1", Some(SyntaxRefusal::Key(Place::Top))),
-        ("format = 1\nsegments = \"A\"", Some(SyntaxRefusal::Key(Place::Segments))),
-        ("format = 1\nsegments = [\"A\", 2]", Some(SyntaxRefusal::Key(Place::Segment(1)))),
-        ("format = 1\nsegments = [\"A B\"]", Some(SyntaxRefusal::BadName(Place::Segment(0)))),
-        ("format = 1\nbox = {}", Some(SyntaxRefusal::Key(Place::Boxes))),
-        ("format = 1\nbox = [1]", Some(SyntaxRefusal::Key(Place::BoxItem(0)))),
-        ("format = 1\nbox = [{ colour = 1 }]", Some(SyntaxRefusal::Key(Place::BoxItem(0)))),
-        ("format = 1\nbox = [{}]", Some(SyntaxRefusal::Key(Place::BoxName(0)))),
+        (
+            "format = 1\nsegments = \"A\"",
+            Some(SyntaxRefusal::Key(Place::Segments)),
+        ),
+        (
+            "format = 1\nsegments = [\"A\", 2]",
+            Some(SyntaxRefusal::Key(Place::Segment(1))),
+        ),
+        (
+            "format = 1\nsegments = [\"A B\"]",
+            Some(SyntaxRefusal::BadName(Place::Segment(0))),
+        ),
+        (
+            "format = 1\nbox = {}",
+            Some(SyntaxRefusal::Key(Place::Boxes)),
+        ),
+        (
+            "format = 1\nbox = [1]",
+            Some(SyntaxRefusal::Key(Place::BoxItem(0))),
+        ),
+        (
+            "format = 1\nbox = [{ colour = 1 }]",
+            Some(SyntaxRefusal::Key(Place::BoxItem(0))),
+        ),
+        (
+            "format = 1\nbox = [{}]",
+            Some(SyntaxRefusal::Key(Place::BoxName(0))),
+        ),
         (
             "format = 1\nbox = [{ name = \"W\", kind = \"switch\", arms = 1 }]",
             Some(SyntaxRefusal::Key(Place::BoxKind(0))),
@@ -108,10 +137,22 @@ fn answers_the_first_refusal(rt: HostRuntime) {
             "format = 1\nbox = [{ name = \"W\", kind = \"point\", arms = [\"?\"], at = \"up\" }]",
             Some(SyntaxRefusal::Key(Place::BoxSide(0))),
         ),
-        ("format = 1\ntrain = 1", Some(SyntaxRefusal::Key(Place::Trains))),
-        ("format = 1\ntrain = [{ kind = 1 }]", Some(SyntaxRefusal::Key(Place::TrainItem(0)))),
-        ("format = 1\ntrain = [{ name = 1 }]", Some(SyntaxRefusal::Key(Place::TrainName(0)))),
-        ("format = 1\ntrain = [{ name = \"T\" }]", Some(SyntaxRefusal::Key(Place::TrainRoute(0)))),
+        (
+            "format = 1\ntrain = 1",
+            Some(SyntaxRefusal::Key(Place::Trains)),
+        ),
+        (
+            "format = 1\ntrain = [{ kind = 1 }]",
+            Some(SyntaxRefusal::Key(Place::TrainItem(0))),
+        ),
+        (
+            "format = 1\ntrain = [{ name = 1 }]",
+            Some(SyntaxRefusal::Key(Place::TrainName(0))),
+        ),
+        (
+            "format = 1\ntrain = [{ name = \"T\" }]",
+            Some(SyntaxRefusal::Key(Place::TrainRoute(0))),
+        ),
         (
             "format = 1\nsegments = [\"?\"]\ntrain = [{ name = \"T\", route = [true] }]",
             Some(SyntaxRefusal::Key(Place::RouteItem(0, 0))),
@@ -134,7 +175,10 @@ fn bears_any_bytes(rt: HostRuntime) -> Result<(), Fail> {
     let alloc = rt.alloc();
     assert_eq!(rt; refusal_of(alloc, b"\xff"), Some(SyntaxRefusal::NotToml));
     let longest = vec![in alloc; b'\n'; 65_536]?;
-    assert_eq!(rt; refusal_of(alloc, &longest), Some(SyntaxRefusal::Key(Place::Format)));
+    assert_eq!(rt;
+        refusal_of(alloc, &longest),
+        Some(SyntaxRefusal::Key(Place::Format))
+    );
     let too_long = vec![in alloc; b'\xff'; 65_537]?;
     assert_eq!(rt; refusal_of(alloc, &too_long), Some(SyntaxRefusal::TooLong));
 
@@ -149,6 +193,9 @@ fn bears_any_bytes(rt: HostRuntime) -> Result<(), Fail> {
         let line = format!(in alloc; "{i}=1\n")?;
         wide.push_str(line.as_str())?;
     }
-    assert_eq!(rt; refusal_of(alloc, wide.as_bytes()), Some(SyntaxRefusal::Key(Place::Top)));
+    assert_eq!(rt;
+        refusal_of(alloc, wide.as_bytes()),
+        Some(SyntaxRefusal::Key(Place::Top))
+    );
     Ok(())
 }

@@ -8,5 +8,5 @@ use Rattle.rl_syntax.proofs.boxes.boxes_of.Given as goal
 abbrev pub invariant-loop-i : goal.invariant-loop-i
 invariant-loop-i l = record {
   counted : length l.boxes ≡ l.i;
-  rest : boxes_of (items_view l.items) ≡ each box_in l.boxes (items_view (drop l.i l.items))
+  rest : boxes_of (items_view l.items) ≡ each box_in l.boxes (items_view (drop l.i l.items));
 }

@@ -8,5 +8,5 @@ use Rattle.rl_syntax.proofs.names.names_of.Given as goal
 abbrev pub invariant-loop-j : goal.invariant-loop-j
 invariant-loop-j l = record {
   counted : length l.names ≡ l.j;
-  rest : names_of l.list (items_view l.items) ≡ each (name_in l.list) l.names (items_view (drop l.j l.items))
+  rest : names_of l.list (items_view l.items) ≡ each (name_in l.list) l.names (items_view (drop l.j l.items));
 }

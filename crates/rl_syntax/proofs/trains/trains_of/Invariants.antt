@@ -8,5 +8,5 @@ use Rattle.rl_syntax.proofs.trains.trains_of.Given as goal
 abbrev pub invariant-loop-i : goal.invariant-loop-i
 invariant-loop-i l = record {
   counted : length l.trains ≡ l.i;
-  rest : trains_of (items_view l.items) ≡ each train_in l.trains (items_view (drop l.i l.items))
+  rest : trains_of (items_view l.items) ≡ each train_in l.trains (items_view (drop l.i l.items));
 }

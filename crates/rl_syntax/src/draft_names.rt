@@ -1,7 +1,6 @@
 ghost use Rattle.std.specs.Prelude.{◌≡◌, [], ◌∷◌};
-ghost use Rattle.rl_syntax.specs.Answer.{Tests};
 ghost use Rattle.rl_syntax.specs.Condition.{first, of_list};
-ghost use Rattle.rl_syntax.specs.NameConditions.{no_name, no_names, of_box, of_train, name_conditions};
+ghost use Rattle.rl_syntax.specs.NameConditions.{no_name, no_names, of_box, of_train, name_conditions, Tests};
 
 use crate::names::{NameList, number};
 use crate::refusal::SyntaxRefusal;

@@ -1,9 +1,8 @@
-use Rattle.std.proofs.Common.{◌+◌, drop, get_or, length, arith}
+use Rattle.std.proofs.Common.{arith}
 use Rattle.std.proofs.lemmas.Grind.{common_steps}
-use Rattle.rl_syntax.specs.Condition.{first, of_list}
 use Rattle.rl_syntax.specs.NameConditions.{of_box}
-use Rattle.rl_syntax.proofs.Conditions.{of_list-drop, or_else}
-use Rattle.rl_syntax.proofs.named.test_boxes.Goals as goal
+use Rattle.rl_syntax.proofs.Conditions.{of_list-drop}
+use Rattle.rl_syntax.proofs.draft_names.test_boxes.Goals as goal
 
 pub returns-in_err-test_box : goal.returns-in_err-test_box
 returns-in_err-test_box c =

@@ -1,7 +1,7 @@
-use Rattle.std.proofs.Common.{◌≡◌, [], ◌∷◌, drop}
+use Rattle.std.proofs.Common.{◌≡◌, drop}
 use Rattle.rl_syntax.specs.Condition.{first, of_list}
 use Rattle.rl_syntax.specs.NameConditions.{of_box}
-use Rattle.rl_syntax.proofs.named.test_boxes.Given as goal
+use Rattle.rl_syntax.proofs.draft_names.test_boxes.Given as goal
 
 -- what is left decides
 abbrev pub invariant-loop-i : goal.invariant-loop-i
