@@ -1,5 +1,6 @@
 -- A text that is too long is refused as such, also where its bytes aren't told.
-use Rattle.std.proofs.Common.{◌≡◌, ℕ, ◌<◌, List, length, replicate, Option, Some, None, Result, Ok, Err, IfSome, refl, ap, arith, length-replicate}
+use Rattle.std.proofs.Common.{◌≡◌, ℕ, ◌<◌, List, length, replicate, Option, Some, None, Result, Ok, Err, IfSome, refl, ap, arith}
+use Rattle.std.proofs.lemmas.List.{length-replicate}
 use Rattle.std.proofs.lemmas.Bool.{lt-ltb, cond-true}
 use Rattle.rl_base.specs.declared.place.Place.TheVariants as place
 use Rattle.rl_base.specs.declared.draft.Draft.{Draft}

@@ -8,7 +8,7 @@ use Rattle.rl_direct.specs.Direct.{IsDirectReport}
 use Rattle.rl_outside.specs.Sink.{grown, GrownByPart}
 use Rattle.rl_outside.specs.Causes.{Rose}
 use Rattle.relis.specs.Orders.{Order, order_of, net_of, Check, Drive}
-use Rattle.relis.specs.Judged.{refused_as, judged}
+use Rattle.relis.specs.Judged.{refused_as, judged, Refused}
 use Rattle.relis.specs.Lines.{usage_line, read_fault_line, refused_line, accepted_line}
 use Rattle.relis.specs.declared.status.Status.{Status}
 use Rattle.relis.specs.declared.status.Status.TheVariants as status
