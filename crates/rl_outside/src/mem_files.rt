@@ -1,4 +1,4 @@
-ghost use Rattle.std.specs.Prelude.{◌≡◌, ◌≢◌, ℕ, List, [], ◌∷◌, ◌++◌, Some, Ok, Err, position, IfOk, IfErr, OnOk, OnErr, IsErrOf};
+ghost use Rattle.std.specs.Prelude.{◌≡◌, ◌≢◌, ℕ, List, [], Some, Ok, Err, position, IfOk, IfErr, OnOk, OnErr, IsErrOf};
 ghost use Rattle.std.specs.Option.{option_copied};
 ghost use Rattle.std.specs.Str.{bytes_eq};
 ghost use Rattle.rl_outside.specs.Causes.{Rose, times_in, failed_after};
@@ -11,8 +11,9 @@ use rl_base::{NoMemory, Sequence, Text};
 use std::alloc::Global;
 use std::marker::Model;
 
+/// A file under its name.
 #[derive(Debug, Drop)]
-pub struct StoredFile {
+struct StoredFile {
     name: Text,
     bytes: Sequence<u8>,
 }
@@ -109,7 +110,7 @@ impl MemFiles {
         })
     }
 
-    /// Puts the bytes under the name, in place of those that were there.
+    /// Puts the bytes under the name, in place of those that were there. A refused call changes nothing.
     pub fn add(&mut self, name: &str, bytes: &[u8]) -> Result<(), NoMemory>
         ensures there { OnOk result (bytes_under self.new.files name.now ≡ Some bytes.now) }
         ensures others { (n : List ℕ) → n ≢ name.now → bytes_under self.new.files n ≡ bytes_under self.old.files n }
@@ -126,6 +127,7 @@ impl MemFiles {
         times_in(&self.failed, name)
     }
 
+    /// How the next fetch ends, noted or not.
     fn answer(&self, alloc: Global, name: &str, limit: usize) -> Result<Vec<u8>, Fetch>
         ensures ok { IfOk result (λ bytes. answer_of self.now name.now limit ≡ Ok bytes.items) }
         ensures err { IfErr result (λ e. e ≢ Fetch.NoMemory → answer_of self.now name.now limit ≡ Err e) }
@@ -143,7 +145,8 @@ impl Files for MemFiles {
     ghost faults = { λ m. times_in m.failed };
 
     /// Each fetch is counted, whatever it answers. A failing number comes before all else, then a name
-    /// that isn't there, then bytes that are too many.
+    /// that isn't there, then bytes that are too many. Where a failed name can't be noted for want of
+    /// memory, the answer is `NoMemory` and the names stay.
     fn fetch(&mut self, alloc: Global, name: &str, limit: usize) -> Result<Vec<u8>, Fetch>
         ensures ok { IfOk result (λ bytes. answer_of self.old name.now limit ≡ Ok bytes.items) }
         ensures err { IfErr result (λ e. e ≢ Fetch.NoMemory → answer_of self.old name.now limit ≡ Err e) }
