@@ -42,8 +42,10 @@ pub trait Files {
     fn fetch(&mut self, alloc: Global, name: &str, limit: usize) -> Result<Vec<u8>, Fetch>
         ensures within { IfOk result (λ bytes. length bytes.items ≤ limit) }
         ensures told { IfOk result (λ bytes. IfSome (held self.old name.now) (λ there. bytes.items ≡ there)) }
-        ensures failed { IsErrOf result Fetch.Failed → Rose (faults self.old name.now) (faults self.new name.now) }
-        ensures too_long { IsErrOf result Fetch.TooLong → IfSome (held self.old name.now) (λ there. limit < length there) }
+        ensures failed { IsErrOf result Fetch.Failed →
+            Rose (faults self.old name.now) (faults self.new name.now) }
+        ensures too_long { IsErrOf result Fetch.TooLong →
+            IfSome (held self.old name.now) (λ there. limit < length there) }
 
         // No answer changes a file, and a count never falls. The counts of other names stay.
         ensures files_stay { (n : List ℕ) → held self.new n ≡ held self.old n }

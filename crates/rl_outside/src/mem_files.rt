@@ -34,7 +34,12 @@ impl Model for MemFiles {
 
     ghost Value = { MemFilesState };
 
-    ghost view = { λ m. record { files = m.files.items; fails = m.fails.items; next = m.next; failed = m.failed } };
+    ghost view = { λ m. record {
+      files = m.files.items;
+      fails = m.fails.items;
+      next = m.next;
+      failed = m.failed;
+    } };
 }
 
 /// The place of the file with this name.
@@ -87,7 +92,8 @@ fn read_within(
     limit: usize,
 ) -> Result<Vec<u8>, Fetch>
     ensures ok { IfOk result (λ bytes. read_within limit (bytes_under files.now name.now) ≡ Ok bytes.items) }
-    ensures err { IfErr result (λ e. e ≢ Fetch.NoMemory → read_within limit (bytes_under files.now name.now) ≡ Err e) }
+    ensures err { IfErr result (λ e. e ≢ Fetch.NoMemory →
+        read_within limit (bytes_under files.now name.now) ≡ Err e) }
 {
     match bytes_of(files, name) {
         None => Err(Fetch::Failed),
@@ -99,7 +105,8 @@ fn read_within(
 impl MemFiles {
     /// No files yet. Those fetches whose number, counted from 0, is in `fails` fail.
     pub fn new(alloc: Global, fails: &[u32]) -> Result<MemFiles, NoMemory>
-        ensures { IfOk result (λ files. files ≡ record { files = []; fails = fails.now; next = 0; failed = [] }) }
+        ensures { IfOk result (λ files. files ≡
+            record { files = []; fails = fails.now; next = 0; failed = [] }) }
     {
         Ok(MemFiles {
             alloc,
@@ -113,7 +120,8 @@ impl MemFiles {
     /// Puts the bytes under the name, in place of those that were there. A refused call changes nothing.
     pub fn add(&mut self, name: &str, bytes: &[u8]) -> Result<(), NoMemory>
         ensures there { OnOk result (bytes_under self.new.files name.now ≡ Some bytes.now) }
-        ensures others { (n : List ℕ) → n ≢ name.now → bytes_under self.new.files n ≡ bytes_under self.old.files n }
+        ensures others { (n : List ℕ) → n ≢ name.now →
+            bytes_under self.new.files n ≡ bytes_under self.old.files n }
         ensures rest { self.new ≡ record self.old { files = self.new.files } }
         ensures refused { OnErr result (self.new ≡ self.old) }
     {
@@ -152,9 +160,13 @@ impl Files for MemFiles {
         ensures err { IfErr result (λ e. e ≢ Fetch.NoMemory → answer_of self.old name.now limit ≡ Err e) }
 
         // What follows for the name's count.
-        ensures failed { IsErrOf result Fetch.Failed → Rose (times_in self.old.failed name.now) (times_in self.new.failed name.now) }
+        ensures failed { IsErrOf result Fetch.Failed →
+            Rose (times_in self.old.failed name.now) (times_in self.new.failed name.now) }
         ensures others { (n : List ℕ) → n ≢ name.now → times_in self.new.failed n ≡ times_in self.old.failed n }
-        ensures after { self.new ≡ record self.old { next = number_after self.old.next; failed = failed_after result self.old.failed name.now } }
+        ensures after { self.new ≡ record self.old {
+          next = number_after self.old.next;
+          failed = failed_after result self.old.failed name.now;
+        } }
     {
         let answer = self.answer(alloc, name, limit);
         self.next = self.next.saturating_add(1);

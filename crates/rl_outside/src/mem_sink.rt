@@ -1,7 +1,6 @@
-ghost use Rattle.std.specs.Prelude.{◌≡◌, ◌<◌, ◌≤◌, ◌+◌, ◌-◌, ◌^◌, [], Some, length, min, take, IfOk, OnErr, if◌then◌else◌};
+ghost use Rattle.std.specs.Prelude.{◌≡◌, ◌<◌, ◌≤◌, ◌-◌, ◌^◌, [], Some, length, min, take, IfOk, OnErr, if◌then◌else◌};
 ghost use Rattle.std.specs.Result.{OkIff};
 ghost use Rattle.std.proofs.Math.Nat.{min-le_right};
-ghost use Rattle.rl_outside.specs.Numbering.{fails_at};
 ghost use Rattle.rl_outside.specs.MemSink.{size_of_put, after_put, after_fault, faults_of};
 
 use crate::sink::{Sink, SinkFault};
@@ -27,7 +26,14 @@ impl Model for MemSink {
 
     ghost Value = { MemSinkState };
 
-    ghost view = { λ s. record { bytes = s.bytes.items; room = s.room; piece = s.piece; fails = s.fails.items; puts = s.puts; faults = s.faults } };
+    ghost view = { λ s. record {
+      bytes = s.bytes.items;
+      room = s.room;
+      piece = s.piece;
+      fails = s.fails.items;
+      puts = s.puts;
+      faults = s.faults;
+    } };
 
     // The memory for all the room is there, so that a put takes none.
     ghost invariant = { λ s. (length s.bytes.items ≤ s.room) × (s.room ≤ vec_capacity s.bytes) };
@@ -38,7 +44,8 @@ impl MemSink {
     /// `piece` bytes, and those whose number, counted from 0, is in `fails` fail.
     pub fn new(alloc: Global, room: usize, piece: usize, fails: &[u32]) -> Result<MemSink, NoMemory>
         requires { 1 ≤ piece }
-        ensures { IfOk result (λ sink. sink ≡ record { bytes = []; room = room; piece = piece; fails = fails.now; puts = 0; faults = 0 }) }
+        ensures { IfOk result (λ sink. sink ≡
+            record { bytes = []; room = room; piece = piece; fails = fails.now; puts = 0; faults = 0 }) }
     {
         Ok(MemSink {
             bytes: Vec::with_capacity(alloc, room)?,
@@ -80,7 +87,7 @@ impl Sink for MemSink {
     /// that is 0 or the put's number is a failing one. Takes no memory.
     fn put(&mut self, piece: &[u8]) -> Result<usize, SinkFault>
         requires { 0 < length piece.now }
-        ensures exact { OkIff result (0 < size_of_put self.old (length piece.now)) (size_of_put self.old (length piece.now)) }
+        ensures exact { let size = size_of_put self.old (length piece.now) in OkIff result (0 < size) size }
         ensures after_ok { IfOk result (λ n. self.new ≡ after_put self.old (take n piece.now)) }
         ensures after_err { OnErr result (self.new ≡ after_fault self.old) }
     {
