@@ -1,4 +1,4 @@
-use Rattle.std.proofs.Common.{◌≡◌, ℕ, ◌+◌, ◌-◌, ◌<◌, ◌≤◌, List, [], ◌++◌, length, take, drop, Option, Some, None, refl, ap, arith, append_assoc}
+use Rattle.std.proofs.Common.{◌≡◌, ℕ, ◌+◌, ◌-◌, ◌≤◌, List, [], length, take, drop, Option, Some, None, refl, ap, arith, append_assoc}
 use Rattle.std.proofs.lemmas.List.{append-nil, take_all, length-drop}
 use Rattle.std.proofs.Math.Seq.{take-add}
 use Rattle.rl_outside.specs.Sink.{grown}

@@ -1,4 +1,4 @@
-use Rattle.std.proofs.Common.{◌≡◌, ◌≢◌, ℕ, ◌+◌, ◌<◌, ◌≤◌, Bool, true, false, List, [], ◌∷◌, ◌++◌, length, get_or, set, Option, Some, None, refl, sym, ap, subst, arith, ◌∙◌}
+use Rattle.std.proofs.Common.{◌≡◌, ◌≢◌, ℕ, Bool, true, false, List, [], ◌∷◌, ◌++◌, get_or, set, Option, Some, None, refl, sym, ap, subst, arith, ◌∙◌}
 use Rattle.std.specs.List.{find, position, position_or_len}
 use Rattle.std.specs.Option.{option_map, option_or}
 use Rattle.std.specs.Str.{bytes_eq}
@@ -8,7 +8,7 @@ use Rattle.std.proofs.lemmas.List.Folds.{find-set, find-append}
 use Rattle.std.proofs.lemmas.List.Quantifiers.{position-Some}
 use Rattle.rl_outside.specs.declared.mem_files.StoredFile.{StoredFile}
 use Rattle.rl_outside.specs.MemFiles.{bytes_under}
-use Rattle.rl_outside.proofs.Named.{bytes_eq-same, bytes_eq-other, find-set_other, find-nowhere}
+use Rattle.rl_outside.proofs.Named.{bytes_eq-other, find-set_other, find-nowhere}
 
 -- the file at the place of a name has that name
 pub name-at_position : (files : List StoredFile) (name : List ℕ) (i : ℕ) (was : StoredFile) →

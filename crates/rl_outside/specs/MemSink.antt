@@ -1,4 +1,4 @@
-use Rattle.std.specs.Prelude.{ℕ, ◌+◌, ◌-◌, ◌^◌, min, List, ◌++◌, length, take, if◌then◌else◌}
+use Rattle.std.specs.Prelude.{ℕ, ◌+◌, ◌-◌, ◌^◌, min, List, ◌++◌, length, if◌then◌else◌}
 use Rattle.rl_outside.specs.Numbering.{number_after, fails_at}
 
 -- a sink in memory: the bytes that it took, how many it can hold, how many it takes at most in one put,

@@ -55,10 +55,12 @@ impl<'a, R: std::rt::Files> DirFiles<'a, R> {
 fn read_piece<F: Read>(file: &mut F, bytes: &mut Vec<u8>, limit: usize) -> Result<bool, Fetch>
     requires { vec_len bytes.old ≤ limit }
     ensures within { OnOk result (vec_len bytes.new ≤ limit) }
-    ensures read { OnOk result ((piece : List ℕ) × (bytes.new.items ≡ bytes.old.items ++ piece) × Consumes (F.remaining file.old) (F.remaining file.new) piece) }
+    ensures read { OnOk result ((piece : List ℕ) × (bytes.new.items ≡ bytes.old.items ++ piece)
+        × Consumes (F.remaining file.old) (F.remaining file.new) piece) }
     ensures more { result ≡ Ok true → vec_len bytes.old < vec_len bytes.new }
     ensures end { result ≡ Ok false → IsAtEnd (F.remaining file.new) }
-    ensures too_long { IsErrOf result Fetch.TooLong → ((piece : List ℕ) × (limit < vec_len bytes.old + length piece) × Consumes (F.remaining file.old) (F.remaining file.new) piece) }
+    ensures too_long { IsErrOf result Fetch.TooLong → ((piece : List ℕ) × (limit < vec_len bytes.old + length piece)
+        × Consumes (F.remaining file.old) (F.remaining file.new) piece) }
 {
     let room = limit - bytes.len();
     let wanted = room.saturating_add(1).min(PIECE);
@@ -110,7 +112,8 @@ impl<R: std::rt::Files> Files for DirFiles<'_, R> {
     fn fetch(&mut self, alloc: Global, name: &str, limit: usize) -> Result<Vec<u8>, Fetch>
         ensures within { IfOk result (λ bytes. length bytes.items ≤ limit) }
         ensures after { self.new ≡ failed_after result self.old name.now }
-        ensures failed { IsErrOf result Fetch.Failed → Rose (times_in self.old name.now) (times_in self.new name.now) }
+        ensures failed { IsErrOf result Fetch.Failed →
+            Rose (times_in self.old name.now) (times_in self.new name.now) }
         ensures others { (n : List ℕ) → n ≢ name.now → times_in self.new n ≡ times_in self.old n }
     {
         let answer = read_file(self.rt, alloc, name, limit);

@@ -3,14 +3,14 @@ ghost use Rattle.rl_outside.specs.Causes.{Rose};
 ghost use Rattle.rl_outside.specs.declared.files.Fetch.TheVariants.{NoMemory as no_memory};
 
 use rl_base::NoMemory;
-use std::alloc::{AllocError, AllocFailed, Global};
+use std::alloc::{AllocError, Global};
 
 /// Why a fetch gives no bytes.
 #[derive(Clone, Copy, Debug, PartialEq, Eq)]
 pub enum Fetch {
     /// The file isn't there, or can't be read. The count of faults of its name has risen.
     Failed,
-    /// The file is longer than the limit.
+    /// The file is longer than the limit that the caller gave.
     TooLong,
     NoMemory,
 }
@@ -19,14 +19,6 @@ impl From<AllocError> for Fetch {
     ghost from_gives = { λ _ fetch. fetch ≡ no_memory };
 
     fn from(_error: AllocError) -> Fetch {
-        Fetch::NoMemory
-    }
-}
-
-impl<T: Drop> From<AllocFailed<T>> for Fetch {
-    ghost from_gives = { λ _ fetch. fetch ≡ no_memory };
-
-    fn from(_error: AllocFailed<T>) -> Fetch {
         Fetch::NoMemory
     }
 }
@@ -46,12 +38,14 @@ pub trait Files {
 
     ghost faults: { Self → List ℕ → ℕ };
 
-    /// Fetches the whole file under the name, of at most `limit` bytes.
+    /// Fetches the whole file under the name, of at most `limit` bytes. The bytes are the caller's own.
     fn fetch(&mut self, alloc: Global, name: &str, limit: usize) -> Result<Vec<u8>, Fetch>
         ensures within { IfOk result (λ bytes. length bytes.items ≤ limit) }
         ensures told { IfOk result (λ bytes. IfSome (held self.old name.now) (λ there. bytes.items ≡ there)) }
-        ensures failed { IsErrOf result Fetch.Failed → Rose (faults self.old name.now) (faults self.new name.now) }
-        ensures too_long { IsErrOf result Fetch.TooLong → IfSome (held self.old name.now) (λ there. limit < length there) }
+        ensures failed { IsErrOf result Fetch.Failed →
+            Rose (faults self.old name.now) (faults self.new name.now) }
+        ensures too_long { IsErrOf result Fetch.TooLong →
+            IfSome (held self.old name.now) (λ there. limit < length there) }
 
         // No answer changes a file, and a count never falls. The counts of other names stay.
         ensures files_stay { (n : List ℕ) → held self.new n ≡ held self.old n }

@@ -1,4 +1,4 @@
-ghost use Rattle.std.specs.Prelude.{◌≡◌, ◌≢◌, ℕ, List, [], ◌∷◌, ◌++◌, Some, Ok, Err, position, IfOk, IfErr, OnOk, OnErr, IsErrOf};
+ghost use Rattle.std.specs.Prelude.{◌≡◌, ◌≢◌, ℕ, List, [], Some, Ok, Err, position, IfOk, IfErr, OnOk, OnErr, IsErrOf};
 ghost use Rattle.std.specs.Option.{option_copied};
 ghost use Rattle.std.specs.Str.{bytes_eq};
 ghost use Rattle.rl_outside.specs.Causes.{Rose, times_in, failed_after};
@@ -11,8 +11,9 @@ use rl_base::{NoMemory, Sequence, Text};
 use std::alloc::Global;
 use std::marker::Model;
 
+/// A file under its name.
 #[derive(Debug, Drop)]
-pub struct StoredFile {
+struct StoredFile {
     name: Text,
     bytes: Sequence<u8>,
 }
@@ -33,7 +34,12 @@ impl Model for MemFiles {
 
     ghost Value = { MemFilesState };
 
-    ghost view = { λ m. record { files = m.files.items; fails = m.fails.items; next = m.next; failed = m.failed } };
+    ghost view = { λ m. record {
+      files = m.files.items;
+      fails = m.fails.items;
+      next = m.next;
+      failed = m.failed;
+    } };
 }
 
 /// The place of the file with this name.
@@ -86,7 +92,8 @@ fn read_within(
     limit: usize,
 ) -> Result<Vec<u8>, Fetch>
     ensures ok { IfOk result (λ bytes. read_within limit (bytes_under files.now name.now) ≡ Ok bytes.items) }
-    ensures err { IfErr result (λ e. e ≢ Fetch.NoMemory → read_within limit (bytes_under files.now name.now) ≡ Err e) }
+    ensures err { IfErr result (λ e. e ≢ Fetch.NoMemory →
+        read_within limit (bytes_under files.now name.now) ≡ Err e) }
 {
     match bytes_of(files, name) {
         None => Err(Fetch::Failed),
@@ -98,7 +105,8 @@ fn read_within(
 impl MemFiles {
     /// No files yet. Those fetches whose number, counted from 0, is in `fails` fail.
     pub fn new(alloc: Global, fails: &[u32]) -> Result<MemFiles, NoMemory>
-        ensures { IfOk result (λ files. files ≡ record { files = []; fails = fails.now; next = 0; failed = [] }) }
+        ensures { IfOk result (λ files. files ≡
+            record { files = []; fails = fails.now; next = 0; failed = [] }) }
     {
         Ok(MemFiles {
             alloc,
@@ -109,10 +117,11 @@ impl MemFiles {
         })
     }
 
-    /// Puts the bytes under the name, in place of those that were there.
+    /// Puts the bytes under the name, in place of those that were there. A refused call changes nothing.
     pub fn add(&mut self, name: &str, bytes: &[u8]) -> Result<(), NoMemory>
         ensures there { OnOk result (bytes_under self.new.files name.now ≡ Some bytes.now) }
-        ensures others { (n : List ℕ) → n ≢ name.now → bytes_under self.new.files n ≡ bytes_under self.old.files n }
+        ensures others { (n : List ℕ) → n ≢ name.now →
+            bytes_under self.new.files n ≡ bytes_under self.old.files n }
         ensures rest { self.new ≡ record self.old { files = self.new.files } }
         ensures refused { OnErr result (self.new ≡ self.old) }
     {
@@ -126,6 +135,7 @@ impl MemFiles {
         times_in(&self.failed, name)
     }
 
+    /// How the next fetch ends, noted or not.
     fn answer(&self, alloc: Global, name: &str, limit: usize) -> Result<Vec<u8>, Fetch>
         ensures ok { IfOk result (λ bytes. answer_of self.now name.now limit ≡ Ok bytes.items) }
         ensures err { IfErr result (λ e. e ≢ Fetch.NoMemory → answer_of self.now name.now limit ≡ Err e) }
@@ -143,15 +153,20 @@ impl Files for MemFiles {
     ghost faults = { λ m. times_in m.failed };
 
     /// Each fetch is counted, whatever it answers. A failing number comes before all else, then a name
-    /// that isn't there, then bytes that are too many.
+    /// that isn't there, then bytes that are too many. Where a failed name can't be noted for want of
+    /// memory, the answer is `NoMemory` and the names stay.
     fn fetch(&mut self, alloc: Global, name: &str, limit: usize) -> Result<Vec<u8>, Fetch>
         ensures ok { IfOk result (λ bytes. answer_of self.old name.now limit ≡ Ok bytes.items) }
         ensures err { IfErr result (λ e. e ≢ Fetch.NoMemory → answer_of self.old name.now limit ≡ Err e) }
 
         // What follows for the name's count.
-        ensures failed { IsErrOf result Fetch.Failed → Rose (times_in self.old.failed name.now) (times_in self.new.failed name.now) }
+        ensures failed { IsErrOf result Fetch.Failed →
+            Rose (times_in self.old.failed name.now) (times_in self.new.failed name.now) }
         ensures others { (n : List ℕ) → n ≢ name.now → times_in self.new.failed n ≡ times_in self.old.failed n }
-        ensures after { self.new ≡ record self.old { next = number_after self.old.next; failed = failed_after result self.old.failed name.now } }
+        ensures after { self.new ≡ record self.old {
+          next = number_after self.old.next;
+          failed = failed_after result self.old.failed name.now;
+        } }
     {
         let answer = self.answer(alloc, name, limit);
         self.next = self.next.saturating_add(1);

@@ -1,7 +1,6 @@
-ghost use Rattle.std.specs.Prelude.{◌≡◌, ◌<◌, ◌≤◌, ◌+◌, ◌-◌, ◌^◌, [], Some, length, min, take, IfOk, OnErr, if◌then◌else◌};
+ghost use Rattle.std.specs.Prelude.{◌≡◌, ◌<◌, ◌≤◌, ◌-◌, ◌^◌, [], Some, length, min, take, IfOk, OnErr, if◌then◌else◌};
 ghost use Rattle.std.specs.Result.{OkIff};
-ghost use Rattle.std.proofs.Common.{arith};
-ghost use Rattle.rl_outside.specs.Numbering.{fails_at};
+ghost use Rattle.std.proofs.Math.Nat.{min-le_right};
 ghost use Rattle.rl_outside.specs.MemSink.{size_of_put, after_put, after_fault, faults_of};
 
 use crate::sink::{Sink, SinkFault};
@@ -27,18 +26,26 @@ impl Model for MemSink {
 
     ghost Value = { MemSinkState };
 
-    ghost view = { λ s. record { bytes = s.bytes.items; room = s.room; piece = s.piece; fails = s.fails.items; puts = s.puts; faults = s.faults } };
+    ghost view = { λ s. record {
+      bytes = s.bytes.items;
+      room = s.room;
+      piece = s.piece;
+      fails = s.fails.items;
+      puts = s.puts;
+      faults = s.faults;
+    } };
 
     // The memory for all the room is there, so that a put takes none.
     ghost invariant = { λ s. (length s.bytes.items ≤ s.room) × (s.room ≤ vec_capacity s.bytes) };
 }
 
 impl MemSink {
-    /// A sink with nothing in it, and the memory for `room` bytes. One put takes at most `piece` bytes,
-    /// and those whose number, counted from 0, is in `fails` fail.
+    /// A sink with nothing in it. It takes the memory for `room` bytes at once. One put takes at most
+    /// `piece` bytes, and those whose number, counted from 0, is in `fails` fail.
     pub fn new(alloc: Global, room: usize, piece: usize, fails: &[u32]) -> Result<MemSink, NoMemory>
         requires { 1 ≤ piece }
-        ensures { IfOk result (λ sink. sink ≡ record { bytes = []; room = room; piece = piece; fails = fails.now; puts = 0; faults = 0 }) }
+        ensures { IfOk result (λ sink. sink ≡
+            record { bytes = []; room = room; piece = piece; fails = fails.now; puts = 0; faults = 0 }) }
     {
         Ok(MemSink {
             bytes: Vec::with_capacity(alloc, room)?,
@@ -57,6 +64,7 @@ impl MemSink {
         self.bytes.as_slice()
     }
 
+    /// How many bytes the next put takes, of a piece of this length.
     fn size_of_put(&self, len: usize) -> usize
         ensures { result ≡ size_of_put self.now len }
     {
@@ -73,13 +81,13 @@ impl Sink for MemSink {
 
     ghost faults = { faults_of };
 
-    ghost bounded = { λ sink. Prim.omega arith };
+    ghost bounded = { λ sink. min-le_right sink.faults (2 ^ 64 - 1) };
 
     /// Takes the least of the piece's length, what one put takes at most, and the room left. Fails where
     /// that is 0 or the put's number is a failing one. Takes no memory.
     fn put(&mut self, piece: &[u8]) -> Result<usize, SinkFault>
         requires { 0 < length piece.now }
-        ensures exact { OkIff result (0 < size_of_put self.old (length piece.now)) (size_of_put self.old (length piece.now)) }
+        ensures exact { let size = size_of_put self.old (length piece.now) in OkIff result (0 < size) size }
         ensures after_ok { IfOk result (λ n. self.new ≡ after_put self.old (take n piece.now)) }
         ensures after_err { OnErr result (self.new ≡ after_fault self.old) }
     {

@@ -13,10 +13,11 @@ pub trait Sink {
 
     ghost faults: { Self → ℕ };
 
-    /// Takes the first bytes of the piece, at least one, and answers how many.
+    /// Takes the first bytes of the piece, at least one, and answers how many. After a fault none was
+    /// taken, and the caller may put again.
     fn put(&mut self, piece: &[u8]) -> Result<usize, SinkFault>
         requires { 0 < length piece.now }
-        ensures some { IfOk result (λ n. 0 < n) }
+        ensures at_least_one { IfOk result (λ n. 0 < n) }
         ensures within { IfOk result (λ n. n ≤ length piece.now) }
         ensures grows { IfOk result (λ n. written self.new ≡ grown (written self.old) (take n piece.now)) }
         ensures stays { OnErr result (written self.new ≡ written self.old) }

@@ -1,5 +1,5 @@
 ghost use Rattle.std.specs.Prelude.{◌≡◌, ◌+◌, ◌-◌, ◌^◌, ◌<◌, ◌≤◌, None, length, min, IfOk, OnOk, OnErr};
-ghost use Rattle.std.proofs.Common.{arith};
+ghost use Rattle.std.proofs.Math.Nat.{min-le_right};
 
 use crate::sink::{Sink, SinkFault};
 use std::marker::Model;
@@ -38,7 +38,7 @@ impl<R: Print> Sink for StdSink<'_, R> {
 
     ghost faults = { λ count. min count (2 ^ 64 - 1) };
 
-    ghost bounded = { λ count. Prim.omega arith };
+    ghost bounded = { λ count. min-le_right count (2 ^ 64 - 1) };
 
     /// Writes once. A write that takes no byte counts as a fault.
     fn put(&mut self, piece: &[u8]) -> Result<usize, SinkFault>

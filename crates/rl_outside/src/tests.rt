@@ -1,7 +1,24 @@
 use super::*;
 use rl_base::{NodeNo, WordNo};
 use std::fs;
+use std::process::Abort;
 use std::test::Fail;
+
+/// Fetches each name within its limit, in this order, and compares the answers.
+fn fetch_in_order<F: Files>(
+    rt: &(impl Abort + AllocGlobal),
+    files: &mut F,
+    table: &[(&str, usize, Result<&[u8], Fetch>)],
+) {
+    for (name, limit, want) in table {
+        let got = files.fetch(rt.alloc(), name, *limit);
+        let got = match &got {
+            Ok(bytes) => Ok(bytes.as_slice()),
+            Err(why) => Err(*why),
+        };
+        assert_eq!(rt; got, *want, "{name} within {limit}");
+    }
+}
 
 #[test]
 fn files_in_memory_are_fetched(rt: HostRuntime) -> Result<(), Fail> {
@@ -9,22 +26,18 @@ fn files_in_memory_are_fetched(rt: HostRuntime) -> Result<(), Fail> {
     files.add("a", b"one")?;
     files.add("b", b"two")?;
     files.add("a", b"three")?;
-    let table: [(&str, usize, Result<&[u8], Fetch>); 6] = [
-        ("a", 5, Ok(b"three")),
-        ("a", 5, Err(Fetch::Failed)),
-        ("a", 4, Err(Fetch::TooLong)),
-        ("c", 5, Err(Fetch::Failed)),
-        ("b", 3, Ok(b"two")),
-        ("c", 5, Err(Fetch::Failed)),
-    ];
-    for (name, limit, want) in table {
-        let got = files.fetch(rt.alloc(), name, limit);
-        let got = match &got {
-            Ok(bytes) => Ok(bytes.as_slice()),
-            Err(why) => Err(*why),
-        };
-        assert_eq!(rt; got, want, "{name} within {limit}");
-    }
+    fetch_in_order(
+        &rt,
+        &mut files,
+        &[
+            ("a", 5, Ok(b"three")),
+            ("a", 5, Err(Fetch::Failed)),
+            ("a", 4, Err(Fetch::TooLong)),
+            ("c", 5, Err(Fetch::Failed)),
+            ("b", 3, Ok(b"two")),
+            ("c", 5, Err(Fetch::Failed)),
+        ],
+    );
     for (name, want) in [("a", 1), ("b", 0), ("c", 2)] {
         assert_eq!(rt; files.failed(name), want, "{name}");
     }
@@ -69,21 +82,17 @@ fn files_of_the_folder_are_fetched(rt: HostRuntime) -> Result<(), Fail> {
     fs::write(&rt, "long", text.as_str())?;
     fs::write(&rt, "empty", "")?;
     let mut files = DirFiles::new(&rt, rt.alloc());
-    let table: [(&str, usize, Result<&[u8], Fetch>); 5] = [
-        ("long", 5000, Ok(text.as_bytes())),
-        ("long", 4999, Err(Fetch::TooLong)),
-        ("empty", 0, Ok(b"")),
-        ("long", 0, Err(Fetch::TooLong)),
-        ("absent", 5000, Err(Fetch::Failed)),
-    ];
-    for (name, limit, want) in table {
-        let got = files.fetch(rt.alloc(), name, limit);
-        let got = match &got {
-            Ok(bytes) => Ok(bytes.as_slice()),
-            Err(why) => Err(*why),
-        };
-        assert_eq!(rt; got, want, "{name} within {limit}");
-    }
+    fetch_in_order(
+        &rt,
+        &mut files,
+        &[
+            ("long", 5000, Ok(text.as_bytes())),
+            ("long", 4999, Err(Fetch::TooLong)),
+            ("empty", 0, Ok(b"")),
+            ("long", 0, Err(Fetch::TooLong)),
+            ("absent", 5000, Err(Fetch::Failed)),
+        ],
+    );
     Ok(())
 }
 
@@ -93,8 +102,12 @@ fn standard_output_takes_a_text(rt: HostRuntime) {
     assert_eq!(rt; put_all(&mut sink, b"a text\n"), Ok(()));
 }
 
+fn pass_and_tell<G: Gate>(gate: &G) {
+    gate.pass(NodeNo(0));
+    gate.moved(NodeNo(0), 1, WordNo(1), 0, 1);
+}
+
 #[test]
 fn an_open_gate_lets_pass() {
-    OpenGate.pass(NodeNo(0));
-    OpenGate.moved(NodeNo(0), 1, WordNo(1), 0, 1);
+    pass_and_tell(&OpenGate);
 }

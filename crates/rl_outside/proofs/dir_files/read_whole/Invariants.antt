@@ -1,4 +1,4 @@
-use Rattle.std.proofs.Common.{◌+◌, ◌-◌, length}
+use Rattle.std.proofs.Common.{◌-◌, length}
 use Rattle.rl_outside.proofs.Reading.{HasRead}
 use Rattle.rl_outside.proofs.dir_files.read_whole.Given as goal
 

@@ -5,7 +5,7 @@ use Rattle.rl_outside.proofs.sink.put_all.Goals as goal
 pub loop-done-preserved : goal.loop-done-preserved
 loop-done-preserved g c =
     let in_rest = c.in_ok-done.ensures.within in
-    let took = c.in_ok-done.ensures.some in (
+    let took = c.in_ok-done.ensures.at_least_one in (
       record {
         within = omega (arith, in_rest, length-drop c.loop-done.done c.args.text.now);
         so_far = rw (c.in_ok-done.ensures.grows, c.loop-done.invariant.0.so_far) (grown-take-add _ _ _ _);

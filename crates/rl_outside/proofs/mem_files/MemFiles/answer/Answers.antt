@@ -1,4 +1,4 @@
-use Rattle.std.proofs.Common.{◌≡◌, ◌∙◌, ap, sym, false, rules}
+use Rattle.std.proofs.Common.{◌≡◌, false, rules}
 use Rattle.rl_outside.specs.Numbering.{fails_at}
 use Rattle.rl_outside.proofs.mem_files.MemFiles.answer.Goals as goal
 

@@ -3,7 +3,7 @@ use Rattle.rl_outside.proofs.std_sink.StdSinkSink.TheImpl.Goals as goal
 
 pub put-tells : goal.put-tells
 put-tells g c = record {
-  some = grind arith;
+  at_least_one = grind arith;
   within = grind arith;
   grows = grind arith;
   stays = grind arith;
