@@ -3,8 +3,7 @@ ghost use Rattle.relis.specs.Judged.{judged};
 ghost use Rattle.relis.specs.Refusals.{IsFaultOf, fault_of_syntax, fault_of_network};
 
 use rl_base::Place;
-use rl_net::check;
-use rl_net::{NetRefusal, Network};
+use rl_net::{NetRefusal, Network, check};
 use rl_syntax::{SyntaxRefusal, read_draft};
 use std::alloc::Global;
 
