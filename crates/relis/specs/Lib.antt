@@ -5,3 +5,4 @@ pub mod Meaning
 pub mod Written
 pub mod Refusals
 pub mod Decisions
+pub mod Statuses

@@ -18,3 +18,21 @@ pub enum Status {
     /// Memory ran out, and nothing was written.
     NoMemory,
 }
+
+impl Status {
+    ghost use Rattle.relis.specs.Statuses.{number_of};
+
+    /// The number with which the program ends.
+    pub fn number(self) -> u8
+        ensures { result ≡ number_of self }
+    {
+        match self {
+            Status::Done => 0,
+            Status::Usage => 1,
+            Status::ReadFault => 2,
+            Status::Refused { .. } => 3,
+            Status::WriteFault => 4,
+            Status::NoMemory => 6,
+        }
+    }
+}
