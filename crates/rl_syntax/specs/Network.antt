@@ -1,4 +1,4 @@
--- How a draft stands in the table of a document.
+-- How a draft is read from the table of a document.
 use Rattle.std.specs.Prelude.{ℕ, codes, Option, option_and_then, Ok, Err, List, [], if◌then◌else◌}
 use Rattle.rl_base.specs.declared.draft.Draft.{Draft}
 use Rattle.rl_base.specs.declared.draft.DraftBox.{DraftBox}
