@@ -100,11 +100,12 @@ right_report net tries rounds report network direct =
           let minds = after.trains in
           let found = there direct.minds t (omega arith) in
           let same = same_Some (outcome_of net report.moves t found.0) o (sym (direct.outcomes t found.0 found.1) ∙ h) in
-          subst (λ x. IsRightOutcome net report.tries report.moves t x) same
-          (record {
-            made = refl;
-            refused = refl;
-            fate = subst (λ n. FateFits net n (world_after net report.moves) t (made_in report.moves t) (refused_in report.moves t) (fate_of net t found.0)) (sym direct.tries_are)
-                (subst (λ x. FateFits net tries x t (made_in report.moves t) (refused_in report.moves t) (fate_of net t found.0)) after.world (fate_fits net tries report.moves direct.world t found.0 (after.each t found.0 found.1)));
-          });
+          subst (λ x. IsRightOutcome net report.tries report.moves t x) same (
+            (refl, refl),
+            (
+              subst (λ n. FateFits net n (world_after net report.moves) t (made_in report.moves t) (refused_in report.moves t) (fate_of net t found.0)) (sym direct.tries_are)
+                  (subst (λ x. FateFits net tries x t (made_in report.moves t) (refused_in report.moves t) (fate_of net t found.0)) after.world (fate_fits net tries report.moves direct.world t found.0 (after.each t found.0 found.1))),
+              tt,
+            ),
+          );
     }

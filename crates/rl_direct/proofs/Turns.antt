@@ -10,7 +10,7 @@ use Rattle.rl_model.specs.declared.moves.Points.TheVariants as points
 use Rattle.rl_model.specs.declared.network.NetworkPlan.{NetworkPlan}
 use Rattle.rl_model.specs.Network.{has_end, connects, side_for, steps_of, IsStep, IsNetwork}
 use Rattle.rl_model.specs.World.{World, points_connect}
-use Rattle.rl_model.specs.Moves.{guards, AllHold, after, holds_ends, IsFree, IsUnlocked, HasLockOf, IsOff}
+use Rattle.rl_model.specs.Moves.{guards, AllHold, after, holds_ends, IsFree, IsUnlocked, HasLockOf, IsNotAcross}
 use Rattle.rl_model.specs.Safety.{IsKept}
 use Rattle.rl_direct.specs.declared.mind.Job.{Job}
 use Rattle.rl_direct.specs.declared.mind.Job.TheVariants.{Near, Far, Lock, Pass, Unlock, FreeNear, FreeFar, DropFar, DropNear}
@@ -145,7 +145,7 @@ sound_enter net tries ms w t mind at network off joined =
     let busy = at.busy in
     let made : w.made t ≡ mind.step = at.agrees.steps ∙ omega arith in
     let stands : w.occupies t p.from ≡ true = at.agrees.picture.occupies p.from ∙ or_left (p.from == p.from) (mind.waits && p.from == p.to) (eq-eqb p.from p.from refl) in
-    let clear : (x : ℕ) → IsOff w t x = λ x f g. grind (arith, nat_tests, at.agrees.picture.across x f g) in
+    let clear : (x : ℕ) → IsNotAcross w t x = λ x f g. grind (arith, nat_tests, at.agrees.picture.across x f g) in
     let both : holds_ends w net t p.to ≡ true = holds_both net w t p.to at.passage.to_there (λ x e. at.agrees.picture.holds p.to x ∙ and_from (p.to == p.from || p.to == p.to) (has_end net p.to x) (or_right (p.to == p.from) (p.to == p.to) (eq-eqb p.to p.to refl)) e) in
     record {
       guarded = ((omega arith, subst (λ k. IsStep net t k p.from p.b p.to) (sym made) (step_is net t mind.step network at.busy)), ((stands, clear), (both, (mine, (joined, tt)))));

@@ -6,18 +6,11 @@ use Rattle.rl_model.specs.declared.network.NetworkPlan.{NetworkPlan}
 use Rattle.rl_model.specs.Network.{arm_of}
 use Rattle.rl_domain.specs.declared.tables.PathLock.{PathLock}
 use Rattle.rl_domain.specs.declared.tables.BoxState.{BoxState}
-use Rattle.rl_domain.specs.States.{is_train, is_lock, holder_at}
+use Rattle.rl_domain.specs.States.{is_lock, holder_at}
+use Rattle.rl_domain.proofs.Meanings.{lock_in_range}
 use Rattle.rl_domain.specs.Tables.{Tables, Fits, holder_of, lock_of}
 use Rattle.std.specs.Option.{option_map_or, option_map}
 use Rattle.rl_model.specs.Moves.{IsTrainOf}
-
--- nobody holds what has no holder
-pub held_by_nobody : (o : Option TrainId) (u : ℕ) → o ≡ None → is_train u o ≡ false
-held_by_nobody o u e = rw e refl
-
--- a holder holds
-pub held_by_holder : (o : Option TrainId) (u : TrainId) → o ≡ Some u → is_train u.0 o ≡ true
-held_by_holder o u e = rw e (grind (arith, nat_tests))
 
 -- the holders in a box's state are trains of the network
 holder_in_state : (net : NetworkPlan) (tables : Tables) (b x : ℕ) (o : Option BoxState) (u : TrainId) → Fits net tables → slice_get tables.boxes b ≡ o → option_map_or (λ (state : BoxState). holder_at state x) o None ≡ Some u → IsTrainOf net u
@@ -36,14 +29,6 @@ holder_in_range net tables s b u fits h = holder_at_arm net tables b (arm_of net
 pub locked_by_holder : (o : Option PathLock) (l : PathLock) → o ≡ Some l → is_lock l.t.0 l.s.0 l.s2.0 o ≡ true
 locked_by_holder o l e = rw e (grind (arith, nat_tests))
 
-lock_in_state : (net : NetworkPlan) (tables : Tables) (b : ℕ) (o : Option BoxState) (l : PathLock) → Fits net tables → slice_get tables.boxes b ≡ o → option_map_or (λ (state : BoxState). state.lock) o None ≡ Some l → IsTrainOf net l.t
-lock_in_state net tables b None l fits there h = cc
-lock_in_state net tables b (Some state) l fits there h = ((fits.states b state there).lock l h).train
-
--- the train of a lock is one of the network
-pub lock_in_range : (net : NetworkPlan) (tables : Tables) (b : ℕ) (l : PathLock) → Fits net tables → lock_of tables b ≡ Some l → IsTrainOf net l.t
-lock_in_range net tables b l fits h = lock_in_state net tables b (slice_get tables.boxes b) l fits refl h
-
 -- whoever holds a segment is a train of the network
 pub reserved_in_range : (net : NetworkPlan) (tables : Tables) (s b : ℕ) (o : Option TrainId) → Fits net tables → holder_of net tables s b ≡ o → IfSome o (IsTrainOf net)
 reserved_in_range net tables s b None fits h = tt
@@ -55,7 +40,7 @@ train_of_lock o = option_map (λ (l : PathLock). l.t) o
 -- whoever has a lock is a train of the network, and has it for some path
 pub locked_in_range : (net : NetworkPlan) (tables : Tables) (b : ℕ) (o : Option PathLock) → Fits net tables → lock_of tables b ≡ o → IfSome (train_of_lock o) (IsTrainOf net)
 locked_in_range net tables b None fits h = tt
-locked_in_range net tables b (Some l) fits h = lock_in_range net tables b l fits h
+locked_in_range net tables b (Some l) fits h = (lock_in_range net tables b l fits h).train
 
 pub locked_for_path : (tables : Tables) (b : ℕ) (o : Option PathLock) → lock_of tables b ≡ o → IfSome (train_of_lock o) (λ u. (from : ℕ) × (to : ℕ) × IsTrue (is_lock u.0 from to (lock_of tables b)))
 locked_for_path tables b None h = tt

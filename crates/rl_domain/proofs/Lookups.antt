@@ -1,15 +1,8 @@
 -- Look-ups in a list by number: after a push, and after a write.
-use Rattle.std.proofs.Common.{◌≡◌, ℕ, ◌<◌, ◌==◌, false, cond, List, [], ◌∷◌, ◌++◌, length, slice_get, slice_set, Some, refl, ap, arith, zero, suc, inl, inr}
+use Rattle.std.proofs.Common.{◌≡◌, ℕ, ◌<◌, ◌==◌, false, cond, List, [], ◌∷◌, slice_get, slice_set, Some, refl, ap, arith, zero, suc, inl, inr}
 use Rattle.std.specs.Option.{option_map_or}
 use Rattle.std.proofs.lemmas.Bool.{ne_eqb, cases_eq}
 use Rattle.std.proofs.lemmas.Bool.Decides.{nat_tests}
-
--- what holds of each item and of one more holds of each after a push
-pub each_push : {A : Type 0} (P : ℕ → A → Type 0) (xs : List A) (y : A) → ((k : ℕ) (x : A) → slice_get xs k ≡ Some x → P k x) → P (length xs) y → (k : ℕ) (x : A) → slice_get (xs ++ y ∷ []) k ≡ Some x → P k x
-each_push P [] y each here zero x is = let same : y ≡ x = cc in rw (← same) here
-each_push P [] y each here (suc k) x is = absurd (cc)
-each_push P (z ∷ xs) y each here zero x is = each zero x is
-each_push P (z ∷ xs) y each here (suc k) x is = each_push (λ n. P (suc n)) xs y (λ n. each (suc n)) here k x is
 
 -- what holds of each item and of one more holds of each after a write
 pub each_set : {A : Type 0} (P : ℕ → A → Type 0) (xs : List A) (i : ℕ) (y : A) → ((k : ℕ) (x : A) → slice_get xs k ≡ Some x → P k x) → P i y → (k : ℕ) (x : A) → slice_get (slice_set xs i y) k ≡ Some x → P k x

@@ -53,8 +53,8 @@ abbrev pub EachLockedPath : World → ℕ → (ℕ → ℕ → Bool) → Bool �
 EachLockedPath w b test answer = (u from to : ℕ) → w.locked b u from to ≡ true → test from to ≡ answer
 
 -- train t isn't across box b
-abbrev pub IsOff : World → ℕ → ℕ → Type 0
-IsOff w t b = (from to : ℕ) → w.across t b from to ≡ false
+abbrev pub IsNotAcross : World → ℕ → ℕ → Type 0
+IsNotAcross w t b = (from to : ℕ) → w.across t b from to ≡ false
 
 -- the guards of each move, over those of its arguments that they look at, in its order
 abbrev pub reserve_guards : NetworkPlan → World → ℕ → ℕ → Guards
@@ -73,7 +73,7 @@ lock_guards net w t b s s2 =
     (guard 9 (IsTrue (can_connect net b s s2)) done)))
 
 abbrev pub unlock_guards : World → ℕ → ℕ → Guards
-unlock_guards w t b = guard 10 (HasLockOf w b t) (guard 11 (IsOff w t b) done)
+unlock_guards w t b = guard 10 (HasLockOf w b t) (guard 11 (IsNotAcross w t b) done)
 
 abbrev pub throw_guards : NetworkPlan → World → ℕ → Guards
 throw_guards net w b =
@@ -88,7 +88,7 @@ settle_guards net w b side =
 abbrev pub enter_guards : NetworkPlan → World → ℕ → ℕ → ℕ → ℕ → Guards
 enter_guards net w t b s s2 =
     guard 16 ((w.made t < steps_of net t) × IsStep net t (w.made t) s b s2)
-    (guard 17 (IsTrue (w.occupies t s) × ((box : ℕ) → IsOff w t box))
+    (guard 17 (IsTrue (w.occupies t s) × ((box : ℕ) → IsNotAcross w t box))
     (guard 18 (IsTrue (holds_ends w net t s2))
     (guard 19 (IsTrue (w.locked b t s s2))
     (guard 20 (IsTrue (points_connect net b s s2 (w.points b))) done))))

@@ -9,7 +9,7 @@ use Rattle.rl_model.specs.declared.report.Outcome.{Outcome}
 use Rattle.rl_model.specs.declared.report.Report.{Report}
 use Rattle.rl_model.specs.Network.{has_end, steps_of}
 use Rattle.rl_model.specs.World.{World}
-use Rattle.rl_model.specs.Moves.{IsMoveOf}
+use Rattle.rl_model.specs.Moves.{Guards, done, guard, AllHold, IsMoveOf}
 use Rattle.rl_model.specs.Safety.{IsSafeRun, world_after}
 
 -- the move is a Leave of train t
@@ -44,11 +44,15 @@ FateFits net tries w t made refused Arrived = (made ≡ steps_of net t) × Rests
 FateFits net tries w t made refused Spent = (made < steps_of net t) × (made + refused ≡ tries) × Rests net w t
 FateFits net tries w t made refused Underway = made + refused ≤ tries
 
--- the outcome of train t has the counted numbers and a fate that fits
-pub record IsRightOutcome (net : NetworkPlan) (tries : ℕ) (moves : List Move) (t : ℕ) (o : Outcome) : Type 0 where
-  pub made : o.made ≡ made_in moves t
-  pub refused : o.refused ≡ refused_in moves t
-  pub fate : FateFits net tries (world_after net moves) t o.made o.refused o.fate
+-- the guards of the outcome of train t: the counted numbers, and a fate that fits
+abbrev pub outcome_guards : NetworkPlan → ℕ → List Move → ℕ → Outcome → Guards
+outcome_guards net tries moves t o =
+    guard 25 ((o.made ≡ made_in moves t) × (o.refused ≡ refused_in moves t))
+    (guard 26 (FateFits net tries (world_after net moves) t o.made o.refused o.fate) done)
+
+-- both hold
+abbrev pub IsRightOutcome : NetworkPlan → ℕ → List Move → ℕ → Outcome → Type 0
+IsRightOutcome net tries moves t o = AllHold (outcome_guards net tries moves t o)
 
 -- the moves are a safe run, and each train has its right outcome
 pub record IsRightReport (net : NetworkPlan) (report : Report) : Type 0 where

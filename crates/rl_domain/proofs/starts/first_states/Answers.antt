@@ -1,5 +1,5 @@
 use Rattle.std.proofs.Common.{arith, length-append}
-use Rattle.rl_domain.proofs.Lookups.{each_push}
+use Rattle.rl_base.proofs.Lists.{each_push}
 use Rattle.rl_domain.specs.Starts.{IsFirstState}
 use Rattle.rl_domain.proofs.starts.first_states.Goals as goal
 
