@@ -1,3 +1,5 @@
 pub mod Fields
+pub mod Lock
 pub mod Resv
 pub mod Run
+pub mod Sense

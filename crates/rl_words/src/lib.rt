@@ -5,8 +5,12 @@
 #![tactic(auto)]
 
 mod field;
+pub mod lock;
 pub mod resv;
 pub mod run;
+pub mod sense;
 
+pub use lock::{LockWord, Path};
 pub use resv::ResvWord;
 pub use run::RunWord;
+pub use sense::SenseWord;
