@@ -1,1 +1,3 @@
 mod LockLemmas
+mod MailLemmas
+mod Options

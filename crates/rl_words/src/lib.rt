@@ -6,11 +6,17 @@
 
 mod field;
 pub mod lock;
+pub mod mail;
+pub mod owners;
 pub mod resv;
 pub mod run;
 pub mod sense;
+pub mod stamp;
 
 pub use lock::{LockWord, Path};
+pub use mail::{Letter, MailWord};
+pub use owners::owner;
 pub use resv::ResvWord;
 pub use run::RunWord;
 pub use sense::SenseWord;
+pub use stamp::{payload_of, stamp_of, word_of};

@@ -1,13 +1,7 @@
-use Rattle.std.proofs.Common.{◌≡◌, ◌≢◌, ◌%◌, Option, Some, None, IfNone, arith}
-use Rattle.rl_words.specs.declared.lock.LockWord.{LockWord}
-use Rattle.rl_words.specs.Lock.{FitsLock, packed_lock}
+use Rattle.std.proofs.Common.{◌≢◌, ◌%◌, arith}
 use Rattle.rl_words.proofs.LockLemmas.{no_path}
+use Rattle.rl_words.proofs.Options.{IfNone-from}
 use Rattle.rl_words.proofs.lock.LockWord.unpack.Goals as goal
-
--- what holds anyhow holds where there is nothing
-IfNone-from : {A : Type 0} (o : Option A) (P : Type 0) → P → IfNone o P
-IfNone-from None P p = p
-IfNone-from (Some x) P p = tt
 
 pub returns-in_err-path-clause-none : goal.returns-in_err-path-clause-none
 returns-in_err-path-clause-none c =
