@@ -1,3 +1,4 @@
+mod FieldLemmas
 mod LockLemmas
 mod MailLemmas
 mod Options
