@@ -2,3 +2,5 @@ mod FieldLemmas
 mod LockLemmas
 mod MailLemmas
 mod Options
+mod PackingLemmas
+mod ResvLemmas
