@@ -33,6 +33,7 @@ low_fewer : (x y j k : ℕ) → k ≤ j → x % 2 ^ j ≡ y % 2 ^ j → x % 2 ^ 
 low_fewer x y j k less same = sym (fewer x) ∙ ap (λ n. n % 2 ^ k) same ∙ fewer y where
   all : j ≡ j - k + k
   all = omega arith
+
   fewer : (n : ℕ) → n % 2 ^ j % 2 ^ k ≡ n % 2 ^ k
   fewer n =
       let split : n % 2 ^ j ≡ (n / 2 ^ k % 2 ^ (j - k)) * 2 ^ k + n % 2 ^ k = ap (λ i. n % 2 ^ i) all ∙ mod-pow-add n (j - k) k in
@@ -49,6 +50,7 @@ high_fewer : (x y j k : ℕ) → j ≤ k → x / 2 ^ j ≡ y / 2 ^ j → x / 2 ^
 high_fewer x y j k more same = sym (fewer x) ∙ ap (λ n. n / 2 ^ (k - j)) same ∙ fewer y where
   all : j + (k - j) ≡ k
   all = omega arith
+
   fewer : (n : ℕ) → n / 2 ^ j / 2 ^ (k - j) ≡ n / 2 ^ k
   fewer n = shr-shr n j (k - j) ∙ ap (λ i. n / 2 ^ i) all
 

@@ -2,5 +2,6 @@ mod FieldLemmas
 mod LockLemmas
 mod MailLemmas
 mod Options
+mod OwnerLemmas
 mod PackingLemmas
 mod ResvLemmas

@@ -1,5 +1,5 @@
 -- Two values of a word never share a packing.
-use Rattle.std.proofs.Common.{◌≡◌, ◌≢◌, ℕ, ◌+◌, ◌*◌, ◌^◌, ◌<◌, ◌≤◌, Option, Some, None, refl, sym, ap, ◌∙◌, lit<, arith}
+use Rattle.std.proofs.Common.{◌≡◌, ℕ, Option, Some, None, refl, ap, arith}
 use Rattle.rl_base.specs.declared.ids.Arm.{Arm}
 use Rattle.rl_base.specs.declared.ids.BoxId.{BoxId}
 use Rattle.rl_base.specs.declared.ids.TrainId.{TrainId}
@@ -19,7 +19,7 @@ use Rattle.rl_words.specs.declared.sense.SenseWord.{SenseWord}
 use Rattle.rl_words.specs.declared.sense.SenseWord.TheVariants.{Quiet, Head, Tail}
 use Rattle.rl_words.specs.Lock.{FitsPath, FitsLock, packed_path, packed_lock}
 use Rattle.rl_words.specs.Mail.{FitsLetter, FitsMail, verb_code, packed_letter, packed_mail}
-use Rattle.rl_words.specs.Resv.{FitsArm, FitsResv, arm_code, packed_resv}
+use Rattle.rl_words.specs.Resv.{FitsResv, arm_code, packed_resv}
 use Rattle.rl_words.specs.Run.{FitsRun, packed_run}
 use Rattle.rl_words.specs.Sense.{FitsSense, packed_sense}
 use Rattle.rl_words.proofs.MailLemmas.{verb_code-lt}

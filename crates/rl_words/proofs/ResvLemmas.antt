@@ -1,5 +1,5 @@
 -- One arm of a reservation word, in the word and in its packing.
-use Rattle.std.proofs.Common.{◌≡◌, ◌≢◌, ℕ, zero, suc, ◌+◌, ◌*◌, ◌^◌, ◌<◌, Option, Some, None, refl, arith}
+use Rattle.std.proofs.Common.{◌≡◌, ◌≢◌, ℕ, zero, suc, ◌*◌, ◌<◌, Option, Some, None, refl, arith}
 use Rattle.rl_base.specs.declared.ids.TrainId.{TrainId}
 use Rattle.rl_words.specs.declared.resv.ResvWord.{ResvWord}
 use Rattle.rl_words.specs.Fields.{field, with_field}

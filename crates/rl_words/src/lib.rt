@@ -5,6 +5,7 @@
 #![tactic(auto)]
 
 mod field;
+pub mod laws;
 pub mod lock;
 pub mod mail;
 pub mod owners;
@@ -13,6 +14,7 @@ pub mod run;
 pub mod sense;
 pub mod stamp;
 
+pub use laws::{arms, bit_fields, one_owner, packings, stamps};
 pub use lock::{LockWord, Path};
 pub use mail::{Letter, MailWord};
 pub use owners::owner;

@@ -91,6 +91,7 @@ pub fn owner(lay: &Layout, w: WordNo, payload: u32) -> Option<NodeNo>
     requires within { w.0 < word_count lay.now }
     ensures some { IfSome result (λ n. Owns lay.now w.0 payload n.0) }
     ensures none { IfNone result ((n : ℕ) → ¬ Owns lay.now w.0 payload n) }
+    ensures back { (n : ℕ) → Owns lay.now w.0 payload n → result ≡ Some (record { 0 = n }) }
 {
     let node = node_at(lay.word_kind(w), payload)?;
     if has_node(lay, node) {

@@ -62,10 +62,22 @@ impl ResvWord {
         ensures { result ≡ with_arm self x.0 holder }
     {
         match x.0 {
-            0 => ResvWord { arm0: holder, ..self },
-            1 => ResvWord { arm1: holder, ..self },
-            2 => ResvWord { arm2: holder, ..self },
-            _ => ResvWord { arm3: holder, ..self },
+            0 => ResvWord {
+                arm0: holder,
+                ..self
+            },
+            1 => ResvWord {
+                arm1: holder,
+                ..self
+            },
+            2 => ResvWord {
+                arm2: holder,
+                ..self
+            },
+            _ => ResvWord {
+                arm3: holder,
+                ..self
+            },
         }
     }
 
