@@ -6,7 +6,7 @@ ghost use Rattle.rl_words.specs.Lock.{FitsPath, FitsLock, side_code, packed_path
 use crate::field::{field, put};
 use rl_base::{Arm, Side, TrainId};
 
-/// A train that passes a box, from arm `x` to arm `y`.
+/// The way of a train through a box, from arm `x` to arm `y`.
 #[derive(Clone, Copy, Debug, PartialEq, Eq)]
 pub struct Path {
     pub train: TrainId,
@@ -14,8 +14,9 @@ pub struct Path {
     pub y: Arm,
 }
 
-/// The word of a box that says how its points stand: free, at a side; asked for a path, moving to it or moved;
-/// locked for it.
+/// The word of a box that says how it stands: free, with its points at a side, or locked for a path. The lock is
+/// asked for until the machine moves the points, moving until they stand right, moved until the box has seen
+/// that, and then locked.
 #[derive(Clone, Copy, Debug, PartialEq, Eq)]
 pub enum LockWord {
     Free(Side),

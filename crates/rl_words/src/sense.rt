@@ -4,8 +4,8 @@ ghost use Rattle.rl_words.specs.Sense.{FitsSense, packed_sense};
 
 use crate::field::{field, put};
 
-/// The word by which the track of a train tells it what it saw of step `k`: nothing yet, that the head has come past
-/// the box, or that the tail has.
+/// The word by which its track tells a train how far it has come with its step `k`: the track has seen nothing
+/// yet, has seen the head past the box, or has seen the tail past it.
 #[derive(Clone, Copy, Debug, PartialEq, Eq)]
 pub enum SenseWord {
     Quiet(u32),
