@@ -18,6 +18,7 @@ pub mod refusal;
 mod routes;
 mod sides;
 mod starts;
+mod table;
 mod twice;
 
 pub use acceptance::check;
