@@ -3,3 +3,4 @@ pub mod Rows
 pub mod Ends
 pub mod NetRefusals
 pub mod NameTables
+pub mod Indexes

@@ -11,6 +11,7 @@ mod arms;
 mod counts;
 mod ends;
 mod fits;
+mod index;
 mod names;
 pub mod network;
 mod plan;
