@@ -62,9 +62,12 @@ fn refusal_of(index: &DraftIndex<'_>) -> Option<NetRefusal>
     first_start_shared(draft).map(NetRefusal::StartShared)
 }
 
-/// The network of a draft, with segments, boxes and trains numbered by their places, or the first rule
-/// that the draft breaks and the first place at which it does. The draft is consumed. Apart from
-/// `NoMemory` the answer depends on nothing but the draft.
+/// The network of a draft, with segments, boxes and trains numbered by their places, or its first refusal:
+/// of the rules that the draft breaks the one that stands first in `NetRefusal`, and the first place at
+/// which it is broken. Segments come before boxes and boxes before trains, and a box or a train with all
+/// of its arms or route before the next. The draft is consumed in either case. Apart from `NoMemory` the
+/// answer depends on nothing but the draft. A draft of any size may be given: the counts are looked at
+/// first, and what follows takes time about linear in what they allow.
 pub fn check(alloc: Global, draft: Draft) -> Result<Network, NetRefusal>
     requires names { HasNames draft }
     ensures accepted { OnOk result (first_refusal draft ≡ None) }
