@@ -23,6 +23,6 @@ arms_join Point x y Left = are_arms x y 0 1
 arms_join Point x y Right = are_arms x y 0 2
 arms_join Crossing x y side = are_arms x y 0 1 || are_arms x y 2 3
 
--- the side at which the box connects x and y, left where it does at both
+-- the side at which the box connects x and y, left where it does at both, and none where at neither
 abbrev pub joining_side : Kind → ℕ → ℕ → Option Side
 joining_side kind x y = if arms_join kind x y Left then Some Left else (if arms_join kind x y Right then Some Right else None)

@@ -19,7 +19,7 @@ pub struct Arm(pub u32);
 #[derive(Clone, Copy, Debug, PartialEq, Eq, PartialOrd, Ord, Hash)]
 pub struct NodeNo(pub u32);
 
-/// The number of a shared word: 0 is the still word, then come a reservation word and a lock word for
-/// each box, and a mail, a run and a sense word for each train, `1 + 2B + 3T` in all.
+/// The number of a shared word: 0 is the still word; then come the reservation words of all boxes, the lock
+/// words of all boxes, and the mail, the run and the sense words of all trains, `1 + 2B + 3T` in all.
 #[derive(Clone, Copy, Debug, PartialEq, Eq, PartialOrd, Ord, Hash)]
 pub struct WordNo(pub u32);

@@ -1,5 +1,5 @@
 /// Where a refusal stands. An index counts segments, boxes, trains, arms or route places from 0, and a
-/// line number counts lines from 1.
+/// line number counts lines from 1, and is 0 where the whole text is meant.
 #[derive(Clone, Copy, Debug, PartialEq, Eq)]
 pub enum Place {
     None,

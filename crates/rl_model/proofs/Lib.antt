@@ -1,3 +1,5 @@
+pub mod Kept
+pub mod ExampleRun
 pub mod Search
 pub mod Places
 pub mod Refusals

@@ -6,3 +6,4 @@ pub mod Reports
 pub mod ReportText
 pub mod Drafts
 pub mod Refusals
+pub mod Examples

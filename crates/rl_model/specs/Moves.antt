@@ -1,7 +1,9 @@
 -- The ten moves: their guards, numbered in the order in which they are tested, and their changes.
-use Rattle.std.specs.Prelude.{◌≡◌, ℕ, ◌+◌, ◌<◌, ◌≢◌, ◌==◌, Bool, true, false, not, ◌&&◌, ◌||◌, ◌⊎◌, if◌then◌else◌, IsTrue}
+use Rattle.std.specs.Prelude.{◌≡◌, ℕ, ◌+◌, ◌<◌, ◌≢◌, ◌==◌, Bool, true, false, not, ◌&&◌, ◌||◌, ◌⊎◌, if◌then◌else◌, IsTrue, slice_get, length}
 use Rattle.std.specs.Option.{option_map_or}
-use Rattle.std.specs.Prelude.{slice_get}
+use Rattle.rl_base.specs.declared.ids.SegId.{SegId}
+use Rattle.rl_base.specs.declared.ids.BoxId.{BoxId}
+use Rattle.rl_base.specs.declared.ids.TrainId.{TrainId}
 use Rattle.rl_base.specs.declared.kind.Side.{Side}
 use Rattle.rl_model.specs.declared.moves.Move.{Move}
 use Rattle.rl_model.specs.declared.moves.Move.TheVariants.{Reserve, Release, Lock, Unlock, Throw, Settle, Enter, Leave, Refuse, Bar}
@@ -51,10 +53,10 @@ abbrev pub EachLockedPath : World → ℕ → (ℕ → ℕ → Bool) → Bool �
 EachLockedPath w b test answer = (u from to : ℕ) → w.locked b u from to ≡ true → test from to ≡ answer
 
 -- train t isn't across box b
-abbrev pub IsOff : World → ℕ → ℕ → Type 0
-IsOff w t b = (from to : ℕ) → w.across t b from to ≡ false
+abbrev pub IsNotAcross : World → ℕ → ℕ → Type 0
+IsNotAcross w t b = (from to : ℕ) → w.across t b from to ≡ false
 
--- the guards of each move. The arguments are the move's own, in its order
+-- the guards of each move, over those of its arguments that they look at, in its order
 abbrev pub reserve_guards : NetworkPlan → World → ℕ → ℕ → Guards
 reserve_guards net w s b =
     guard 1 (IsTrue (has_end net s b)) (guard 2 (IsFree w s b) done)
@@ -71,7 +73,7 @@ lock_guards net w t b s s2 =
     (guard 9 (IsTrue (can_connect net b s s2)) done)))
 
 abbrev pub unlock_guards : World → ℕ → ℕ → Guards
-unlock_guards w t b = guard 10 (HasLockOf w b t) (guard 11 (IsOff w t b) done)
+unlock_guards w t b = guard 10 (HasLockOf w b t) (guard 11 (IsNotAcross w t b) done)
 
 abbrev pub throw_guards : NetworkPlan → World → ℕ → Guards
 throw_guards net w b =
@@ -86,7 +88,7 @@ settle_guards net w b side =
 abbrev pub enter_guards : NetworkPlan → World → ℕ → ℕ → ℕ → ℕ → Guards
 enter_guards net w t b s s2 =
     guard 16 ((w.made t < steps_of net t) × IsStep net t (w.made t) s b s2)
-    (guard 17 (IsTrue (w.occupies t s) × ((box : ℕ) → IsOff w t box))
+    (guard 17 (IsTrue (w.occupies t s) × ((box : ℕ) → IsNotAcross w t box))
     (guard 18 (IsTrue (holds_ends w net t s2))
     (guard 19 (IsTrue (w.locked b t s s2))
     (guard 20 (IsTrue (points_connect net b s s2 (w.points b))) done))))
@@ -159,3 +161,25 @@ after w (Enter t b s s2) = enter w t.0 b.0 s.0 s2.0
 after w (Leave t s) = leave w t.0 s.0
 after w (Refuse t s b u) = w
 after w (Bar t b u) = w
+
+-- the trains, segments and boxes that a move names are the network's
+abbrev pub IsTrainOf : NetworkPlan → TrainId → Type 0
+IsTrainOf net t = t.0 < length net.trains
+
+abbrev pub IsSegmentOf : NetworkPlan → SegId → Type 0
+IsSegmentOf net s = s.0 < length net.segments
+
+abbrev pub IsBoxOf : NetworkPlan → BoxId → Type 0
+IsBoxOf net b = b.0 < length net.boxes
+
+abbrev pub IsMoveOf : NetworkPlan → Move → Type 0
+IsMoveOf net (Reserve t s b) = IsTrainOf net t × IsSegmentOf net s × IsBoxOf net b
+IsMoveOf net (Release t s b) = IsTrainOf net t × IsSegmentOf net s × IsBoxOf net b
+IsMoveOf net (Lock t b s s2) = IsTrainOf net t × IsBoxOf net b × IsSegmentOf net s × IsSegmentOf net s2
+IsMoveOf net (Unlock t b) = IsTrainOf net t × IsBoxOf net b
+IsMoveOf net (Throw b) = IsBoxOf net b
+IsMoveOf net (Settle b side) = IsBoxOf net b
+IsMoveOf net (Enter t b s s2) = IsTrainOf net t × IsBoxOf net b × IsSegmentOf net s × IsSegmentOf net s2
+IsMoveOf net (Leave t s) = IsTrainOf net t × IsSegmentOf net s
+IsMoveOf net (Refuse t s b u) = IsTrainOf net t × IsSegmentOf net s × IsBoxOf net b × IsTrainOf net u
+IsMoveOf net (Bar t b u) = IsTrainOf net t × IsBoxOf net b × IsTrainOf net u

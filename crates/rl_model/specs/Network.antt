@@ -25,6 +25,7 @@ arm_of net s b = option_and_then (arm_at b) (slice_get net.segments s)
 abbrev pub has_end : NetworkPlan → ℕ → ℕ → Bool
 has_end net s b = is_some (arm_of net s b)
 
+-- the kind of box b; one that isn't there counts as a buffer, which connects nothing
 abbrev pub kind_of : NetworkPlan → ℕ → Kind
 kind_of net b = option_map_or (λ (x : SwitchBox). x.kind) (slice_get net.boxes b) Buffer
 
@@ -46,7 +47,7 @@ connects net b s s2 side = joined (kind_of net b) side (arm_of net s b) (arm_of 
 abbrev pub can_connect : NetworkPlan → ℕ → ℕ → ℕ → Bool
 can_connect net b s s2 = connects net b s s2 Left || connects net b s s2 Right
 
--- the side at which box b connects segments s and s2, left where it does at both
+-- the side at which box b connects segments s and s2, left where it does at both, and none where at neither
 abbrev pub side_for : NetworkPlan → ℕ → ℕ → ℕ → Option Side
 side_for net b s s2 = if connects net b s s2 Left then Some Left else (if connects net b s s2 Right then Some Right else None)
 
@@ -64,7 +65,7 @@ box_name net b = option_map_or (λ (x : SwitchBox). x.name) (slice_get net.boxes
 abbrev pub train_name : NetworkPlan → ℕ → List ℕ
 train_name net t = option_map_or (λ (r : Train). r.name) (slice_get net.trains t) []
 
--- how many steps the route of train t has
+-- how many steps the route of train t has; one that isn't there has none
 abbrev pub steps_of : NetworkPlan → ℕ → ℕ
 steps_of net t = option_map_or (λ (r : Train). length r.boxes) (slice_get net.trains t) 0
 
@@ -87,7 +88,7 @@ pub record IsEndOf (net : NetworkPlan) (s : ℕ) (e : SegmentEnd) : Type 0 where
   pub arm : e.arm.0 < arms_of (kind_of net e.at.0)
   pub segment : segment_at net e.at.0 e.arm.0 ≡ Some s
 
--- a segment ends at two different boxes
+-- each end of the segment is an arm that names it, and the first is at the box with the lower number
 pub record IsSegment (net : NetworkPlan) (s : ℕ) (g : Segment) : Type 0 where
   pub low : IsEndOf net s g.low
   pub high : IsEndOf net s g.high

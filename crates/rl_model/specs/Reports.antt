@@ -9,6 +9,7 @@ use Rattle.rl_model.specs.declared.report.Outcome.{Outcome}
 use Rattle.rl_model.specs.declared.report.Report.{Report}
 use Rattle.rl_model.specs.Network.{has_end, steps_of}
 use Rattle.rl_model.specs.World.{World}
+use Rattle.rl_model.specs.Moves.{Guards, done, guard, AllHold, IsMoveOf}
 use Rattle.rl_model.specs.Safety.{IsSafeRun, world_after}
 
 -- the move is a Leave of train t
@@ -29,7 +30,7 @@ made_in moves t = count_by (is_leave t) moves
 abbrev pub refused_in : List Move → ℕ → ℕ
 refused_in moves t = count_by (is_refusal t) moves
 
--- train t stands on one segment alone, holds it at both ends and nothing else, and has no lock
+-- train t isn't across a box, occupies a segment, holds that at both ends and nothing else, and has no lock
 pub record Rests (net : NetworkPlan) (w : World) (t : ℕ) : Type 0 where
   pub off : (b from to : ℕ) → w.across t b from to ≡ false
   pub segment : ℕ
@@ -43,14 +44,27 @@ FateFits net tries w t made refused Arrived = (made ≡ steps_of net t) × Rests
 FateFits net tries w t made refused Spent = (made < steps_of net t) × (made + refused ≡ tries) × Rests net w t
 FateFits net tries w t made refused Underway = made + refused ≤ tries
 
--- the outcome of train t has the counted numbers and a fate that fits
-pub record IsRightOutcome (net : NetworkPlan) (tries : ℕ) (moves : List Move) (t : ℕ) (o : Outcome) : Type 0 where
-  pub made : o.made ≡ made_in moves t
-  pub refused : o.refused ≡ refused_in moves t
-  pub fate : FateFits net tries (world_after net moves) t o.made o.refused o.fate
+-- the guards of the outcome of train t: the counted numbers, and a fate that fits
+abbrev pub outcome_guards : NetworkPlan → ℕ → List Move → ℕ → Outcome → Guards
+outcome_guards net tries moves t o =
+    guard 25 ((o.made ≡ made_in moves t) × (o.refused ≡ refused_in moves t))
+    (guard 26 (FateFits net tries (world_after net moves) t o.made o.refused o.fate) done)
+
+-- both hold
+abbrev pub IsRightOutcome : NetworkPlan → ℕ → List Move → ℕ → Outcome → Type 0
+IsRightOutcome net tries moves t o = AllHold (outcome_guards net tries moves t o)
 
 -- the moves are a safe run, and each train has its right outcome
 pub record IsRightReport (net : NetworkPlan) (report : Report) : Type 0 where
   pub run : IsSafeRun net report.moves
   pub trains : length report.outcomes ≡ length net.trains
   pub outcomes : (t : ℕ) (o : Outcome) → slice_get report.outcomes t ≡ Some o → IsRightOutcome net report.tries report.moves t o
+
+-- what a report of the network has in range: tries from 1 to 1000, moves of the network, and an outcome for
+-- each train with numbers of at most 1,000,000
+pub record IsReportOf (net : NetworkPlan) (report : Report) : Type 0 where
+  pub some_tries : 1 ≤ report.tries
+  pub few_tries : report.tries ≤ 1000
+  pub moves : (k : ℕ) (m : Move) → slice_get report.moves k ≡ Some m → IsMoveOf net m
+  pub trains : length report.outcomes ≡ length net.trains
+  pub outcomes : (t : ℕ) (o : Outcome) → slice_get report.outcomes t ≡ Some o → (o.made ≤ 1000000) × (o.refused ≤ 1000000)

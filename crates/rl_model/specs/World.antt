@@ -16,7 +16,7 @@ pub record World : Type 0 where
   pub points : ℕ → Points  -- box
   pub made : ℕ → ℕ  -- train
 
--- the points stand at the side
+-- points that stand at the side
 abbrev pub points_at : Side → Points
 points_at Left = points.Left
 points_at Right = points.Right

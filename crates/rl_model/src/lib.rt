@@ -6,6 +6,8 @@
 //! knows nothing of boxes that answer, of words, of threads or of files.
 #![tactic(auto)]
 
+pub mod examples;
+pub mod laws;
 pub mod moves;
 pub mod network;
 pub mod refusal_laws;

@@ -8,7 +8,7 @@ pub enum Fate {
     Arrived,
     /// It has used up its attempts before the end of its route.
     Spent,
-    /// Neither.
+    /// Under way, as the report says it: nothing is claimed but that its attempts are enough for what it met.
     Underway,
 }
 

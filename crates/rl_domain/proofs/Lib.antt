@@ -1,0 +1,12 @@
+pub mod Lookups
+pub mod Arms
+pub mod Worlds
+pub mod Beginnings
+pub mod Meanings
+pub mod Writes
+pub mod Moved
+pub mod Apart
+pub mod Travels
+pub mod Holders
+pub mod Meetings
+pub mod Rested

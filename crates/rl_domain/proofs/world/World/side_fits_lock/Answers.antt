@@ -1,0 +1,18 @@
+use Rattle.std.proofs.Common.{sym, true}
+use Rattle.rl_model.specs.Network.{connects}
+use Rattle.rl_domain.proofs.Meanings.{iff_at, locked_path_iff, lock_in_range}
+use Rattle.rl_domain.proofs.world.World.side_fits_lock.Goals as goal
+
+pub connects-requires-clause-from_in : goal.connects-requires-clause-from_in
+connects-requires-clause-from_in c =
+    (lock_in_range _ _ _ c.in-Some.l c.requires.fits (sym c.in-Some.ensures)).from
+
+pub connects-requires-clause-to_in : goal.connects-requires-clause-to_in
+connects-requires-clause-to_in c =
+    (lock_in_range _ _ _ c.in-Some.l c.requires.fits (sym c.in-Some.ensures)).to
+
+pub returns-in-Some : goal.returns-in-Some
+returns-in-Some c =
+    rw (← c.in-Some.ensures)
+    (iff_at _ _ c.connects.ensures
+    (locked_path_iff c.in-Some.l (λ from to. connects c.args.net.now c.args.b.0 from to c.args.side) true))

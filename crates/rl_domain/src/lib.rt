@@ -1,0 +1,21 @@
+//! The world as code: who stands where, who holds what and how the points stand, in tables, and the ten
+//! moves with their guards.
+//!
+//! It gives upward a `World` that tests a move as the definitions do and changes as they say, and that
+//! answers whether trains have met or left the rails. It takes moves as they come, and may not know who
+//! made them: it has no words, no protocol and no reports.
+#![tactic(auto)]
+
+mod changes;
+mod facts;
+mod guards;
+mod queries;
+mod rests;
+mod safety;
+mod starts;
+mod tables;
+mod world;
+
+pub use rl_model::{Move, Moves, Points};
+pub use tables::{BoxState, PathLock};
+pub use world::{Guard, World};

@@ -1,0 +1,16 @@
+ghost use Rattle.std.specs.Prelude.{ℕ, List};
+ghost use Rattle.rl_model.specs.declared.network.NetworkPlan.{NetworkPlan};
+ghost use Rattle.rl_model.specs.declared.moves.Move.{Move};
+ghost use Rattle.rl_model.specs.World.{World};
+ghost use Rattle.rl_model.specs.Network.{IsNetwork};
+ghost use Rattle.rl_model.specs.Moves.{guards, AllHold, after};
+ghost use Rattle.rl_model.specs.World.{start};
+ghost use Rattle.rl_model.specs.Safety.{IsKept, IsSafe, Guarded, IsSafeRun};
+
+/// Every guarded list of moves from the start of a network is a safe run, whatever the moves and their order.
+pub fn safe_runs()
+    ensures start { (net : NetworkPlan) → IsNetwork net → IsKept net (start net) }
+    ensures kept { (net : NetworkPlan) (w : World) (m : Move) → IsKept net w → AllHold (guards net w m) → IsKept net (after w m) }
+    ensures safe { (net : NetworkPlan) (w : World) → IsKept net w → IsSafe net w }
+    ensures runs { (net : NetworkPlan) (moves : List Move) → IsNetwork net → Guarded net moves → IsSafeRun net moves }
+{}

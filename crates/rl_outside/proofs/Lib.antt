@@ -1,0 +1,4 @@
+pub mod Growing
+pub mod Named
+pub mod Reading
+pub mod Stored

@@ -1,0 +1,23 @@
+use Rattle.std.specs.Prelude.{ℕ, ◌+◌, ◌-◌, ◌^◌, ◌<◌, ◌≤◌, min, List, [], ◌∷◌, ◌++◌, count_by, Result, Ok, Err}
+use Rattle.std.specs.Str.{bytes_eq}
+use Rattle.rl_outside.specs.declared.files.Fetch.{Fetch}
+use Rattle.rl_outside.specs.declared.files.Fetch.TheVariants.{Failed, TooLong, NoMemory}
+
+-- a name's count of faults rose
+abbrev pub Rose : ℕ → ℕ → Type 0
+Rose before now = before < now
+
+-- a sink's count of faults rose, or stands at the greatest u64, where it stays
+abbrev pub RoseOrFull : ℕ → ℕ → Type 0
+RoseOrFull before now = min (before + 1) (2 ^ 64 - 1) ≤ now
+
+-- how often a name stands in a list of names
+abbrev pub times_in : List (List ℕ) → List ℕ → ℕ
+times_in names name = count_by (λ n. bytes_eq n name) names
+
+-- the names whose fetch failed, after a fetch of this name ended so
+abbrev pub failed_after : {T : Type 0} → Result T Fetch → List (List ℕ) → List ℕ → List (List ℕ)
+failed_after (Ok bytes) names name = names
+failed_after (Err Failed) names name = names ++ name ∷ []
+failed_after (Err TooLong) names name = names
+failed_after (Err NoMemory) names name = names

@@ -1,0 +1,10 @@
+use Rattle.std.specs.Prelude.{ℕ, ◌+◌, ◌-◌, ◌^◌, min, ◌==◌, Bool, List}
+use Rattle.std.specs.List.{list_any}
+
+-- the number of the next call, which stays at the greatest u32
+abbrev pub number_after : ℕ → ℕ
+number_after number = min (number + 1) (2 ^ 32 - 1)
+
+-- the call of this number is one of those that fail
+abbrev pub fails_at : List ℕ → ℕ → Bool
+fails_at fails number = list_any (λ k. k == number) fails

@@ -1,0 +1,45 @@
+ghost use Rattle.std.specs.Prelude.{◌≡◌, ℕ, ◌≤◌, ◌<◌, ◌^◌, ◌-◌, List, [], Option, length, take, IfOk, OnOk, OnErr, IsOk};
+ghost use Rattle.rl_outside.specs.Causes.{RoseOrFull};
+ghost use Rattle.rl_outside.specs.Sink.{grown, GrownByPart};
+
+/// The sink took no byte, and its count of faults has risen.
+#[derive(Clone, Copy, Debug, PartialEq, Eq)]
+pub struct SinkFault;
+
+/// Where text goes. `written` tells the bytes taken so far, or leaves them untold, and `faults` counts
+/// the faults, up to the greatest u64.
+pub trait Sink {
+    ghost written: { Self → Option (List ℕ) };
+
+    ghost faults: { Self → ℕ };
+
+    /// Takes the first bytes of the piece, at least one, and answers how many. After a fault none was
+    /// taken, and the caller may put again.
+    fn put(&mut self, piece: &[u8]) -> Result<usize, SinkFault>
+        requires { 0 < length piece.now }
+        ensures at_least_one { IfOk result (λ n. 0 < n) }
+        ensures within { IfOk result (λ n. n ≤ length piece.now) }
+        ensures grows { IfOk result (λ n. written self.new ≡ grown (written self.old) (take n piece.now)) }
+        ensures stays { OnErr result (written self.new ≡ written self.old) }
+        ensures cause { OnErr result (RoseOrFull (faults self.old) (faults self.new)) }
+        ensures later { faults self.old ≤ faults self.new };
+
+    ghost bounded: { (s : Self) → faults s ≤ 2 ^ 64 - 1 };
+}
+
+/// Puts the whole text, piece by piece. Where a put fails, the bytes before it were taken and nothing
+/// more is put. An empty text makes no put. Takes no memory of its own.
+pub fn put_all<K: Sink>(out: &mut K, text: &[u8]) -> Result<(), SinkFault>
+    ensures whole { OnOk result (K.written out.new ≡ grown (K.written out.old) text.now) }
+    ensures part { OnErr result (GrownByPart (K.written out.old) (K.written out.new) text.now) }
+    ensures cause { OnErr result (RoseOrFull (K.faults out.old) (K.faults out.new)) }
+    ensures later { K.faults out.old ≤ K.faults out.new }
+    ensures empty { text.now ≡ [] → IsOk result }
+    ensures no_put { text.now ≡ [] → out.new ≡ out.old }
+{
+    let mut done = 0;
+    while done < text.len() {
+        done += out.put(&text[done..])?;
+    }
+    Ok(())
+}

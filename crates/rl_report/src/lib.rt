@@ -1,0 +1,11 @@
+//! The report as text.
+//!
+//! It gives upward the text of a report, byte for byte as the model defines it. It knows the names of a
+//! network and the forms of the lines, and not how a report came about.
+#![tactic(auto)]
+
+pub mod lines;
+pub mod report;
+
+pub use report::report_text;
+pub use rl_model::{Fate, Outcome, Outcomes, Report};

@@ -1,0 +1,12 @@
+use Rattle.std.proofs.Common.{◌≡◌, length, drop}
+use Rattle.toml.specs.View.{items_view}
+use Rattle.rl_syntax.specs.Network.{train_in, trains_of}
+use Rattle.rl_syntax.specs.Reading.{each}
+use Rattle.rl_syntax.proofs.trains.trains_of.Given as goal
+
+-- what is left is read after the trains so far
+abbrev pub invariant-loop-i : goal.invariant-loop-i
+invariant-loop-i l = record {
+  counted : length l.trains ≡ l.i;
+  rest : trains_of (items_view l.items) ≡ each train_in l.trains (items_view (drop l.i l.items));
+}

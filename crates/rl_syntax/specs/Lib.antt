@@ -1,0 +1,11 @@
+pub mod Answer
+pub mod Condition
+pub mod Document
+pub mod KeyConditions
+pub mod Meaning
+pub mod NameConditions
+pub mod Network
+pub mod Reading
+pub mod Spelling
+pub mod Table
+pub mod Values

@@ -1,0 +1,79 @@
+ghost use Rattle.std.specs.Prelude.{◌≡◌, option_map, option_and_then};
+ghost use Rattle.toml.specs.View.{view, table_view, items_view};
+ghost use Rattle.rl_syntax.specs.Network.{box_of, box_in, boxes_of};
+ghost use Rattle.rl_syntax.specs.Reading.{Reads, needed, optional};
+ghost use Rattle.rl_syntax.specs.Values.{kind_named, side_of};
+
+use crate::keys::Keys;
+use crate::names::{NameList, name_at, needed_names, number};
+use crate::refusal::SyntaxRefusal;
+use crate::table::{array_at, table_with, text_at, value_at};
+use crate::values::{kind_named, side_named};
+use rl_base::{DraftBox, DraftBoxes, Kind, Place, Side};
+use std::alloc::Global;
+use toml::{Table, Value};
+
+/// The kind that stands at a place, where a text names one.
+fn kind_at(place: Place, text: Option<&str>) -> Result<Kind, SyntaxRefusal>
+    ensures { Reads result (needed place (option_and_then kind_named (option_map (λ s. s.now) text.entry))) }
+{
+    match text {
+        Some(text) => kind_named(text).ok_or(SyntaxRefusal::Key(place)),
+        None => Err(SyntaxRefusal::Key(place)),
+    }
+}
+
+/// The side that stands at a place, where anything does.
+fn side_at(place: Place, value: Option<&Value>) -> Result<Option<Side>, SyntaxRefusal>
+    ensures { Reads result (optional place side_of (option_map (λ v. view v.now) value.entry)) }
+{
+    let Some(value) = value else {
+        return Ok(None);
+    };
+    match value.as_str() {
+        Some(text) => match side_named(text) {
+            Some(side) => Ok(Some(side)),
+            None => Err(SyntaxRefusal::Key(place)),
+        },
+        None => Err(SyntaxRefusal::Key(place)),
+    }
+}
+
+/// The box that a table says.
+#[tactic(auto, unfolding(crate::specs::Network::box_of))]
+fn box_of(alloc: Global, i: u32, table: &Table) -> Result<DraftBox, SyntaxRefusal>
+    ensures { Reads result (box_of i (table_view table.now)) }
+{
+    let name = name_at(alloc, Place::BoxName(i), text_at(table, "name"))?;
+    let kind = kind_at(Place::BoxKind(i), text_at(table, "kind"))?;
+    let arms = needed_names(alloc, NameList::Arms(i), array_at(table, "arms"))?;
+    let at = side_at(Place::BoxSide(i), value_at(table, "at"))?;
+    Ok(DraftBox {
+        name,
+        kind,
+        arms,
+        at,
+    })
+}
+
+/// The box that a value says, where it is a table with the keys of a box.
+fn box_in(alloc: Global, i: u32, value: &Value) -> Result<DraftBox, SyntaxRefusal>
+    ensures { Reads result (box_in i (view value.now)) }
+{
+    match table_with(Keys::Box, value) {
+        Some(table) => box_of(alloc, i, table),
+        None => Err(SyntaxRefusal::Key(Place::BoxItem(i))),
+    }
+}
+
+/// The boxes of an array, in order.
+#[tactic(auto, unfolding(crate::specs::Network::boxes_of), using(crate::proofs::Items::steps))]
+pub(crate) fn boxes_of(alloc: Global, items: &[Value]) -> Result<DraftBoxes, SyntaxRefusal>
+    ensures { Reads result (boxes_of (items_view items.now)) }
+{
+    let mut boxes = DraftBoxes::new(alloc);
+    for (i, item) in items.iter().enumerate() {
+        boxes.push(box_in(alloc, number(i)?, item)?)?;
+    }
+    Ok(boxes)
+}

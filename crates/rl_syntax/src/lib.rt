@@ -1,0 +1,21 @@
+//! From the bytes of a network text to a draft: what the text says, with names in place of numbers.
+//!
+//! It gives upward a draft all of whose names are names, or the first refusal of the text and its place.
+//! It knows how a network is spelled, and nothing of what makes one: no count, no look-up of a name.
+#![tactic(auto)]
+
+mod boxes;
+mod draft_names;
+mod keys;
+mod names;
+mod network;
+mod read;
+mod refusal;
+mod table;
+#[cfg(test)]
+mod tests;
+mod trains;
+mod values;
+
+pub use read::{MAX_TEXT, read_draft};
+pub use refusal::SyntaxRefusal;
