@@ -1,4 +1,4 @@
-use Rattle.std.proofs.Common.{◌≡◌, ◌+◌, ◌*◌, ◌%◌, ◌^◌, ◌∙◌, arith}
+use Rattle.std.proofs.Common.{◌≡◌, ◌*◌, ◌%◌, ◌^◌, ◌∙◌}
 use Rattle.std.proofs.Math.Nat.{mod-eq_of_lt, add_comm}
 use Rattle.std.proofs.lemmas.Nat.{or_comm, or_shifted}
 use Rattle.rl_words.proofs.field.put.Goals as goal
