@@ -1,0 +1,12 @@
+//! The shared words: what each kind of word says, and its packing into the bits of a number.
+//!
+//! It gives upward: each value of a word is one number and the other way round; a word is a stamp and a
+//! payload; and at each value exactly one node may change a word. It knows no step of a node.
+#![tactic(auto)]
+
+mod field;
+pub mod resv;
+pub mod run;
+
+pub use resv::ResvWord;
+pub use run::RunWord;
