@@ -1,4 +1,4 @@
-use Rattle.std.specs.Prelude.{ℕ, ◌+◌, ◌*◌, ◌^◌, ◌<◌, Option, Some, None}
+use Rattle.std.specs.Prelude.{ℕ, ◌==◌, ◌+◌, ◌*◌, ◌^◌, ◌<◌, Option, Some, None, if◌then◌else◌}
 use Rattle.rl_base.specs.declared.ids.TrainId.{TrainId}
 use Rattle.rl_words.specs.declared.resv.ResvWord.{ResvWord}
 
@@ -21,3 +21,12 @@ arm_code (Some t) = t.0 + 1
 -- six bits for each arm, arm 0 in the lowest
 abbrev pub packed_resv : ResvWord → ℕ
 packed_resv w = arm_code w.arm0 + arm_code w.arm1 * 2 ^ 6 + arm_code w.arm2 * 2 ^ 12 + arm_code w.arm3 * 2 ^ 18
+
+-- who holds the segment at arm x, for x below 4
+abbrev pub arm_in : ResvWord → ℕ → Option TrainId
+arm_in w x = if x == 0 then w.arm0 else (if x == 1 then w.arm1 else (if x == 2 then w.arm2 else w.arm3))
+
+-- the word with arm x held as said, for x below 4
+abbrev pub with_arm : ResvWord → ℕ → Option TrainId → ResvWord
+with_arm w x arm =
+    if x == 0 then record w { arm0 = arm } else (if x == 1 then record w { arm1 = arm } else (if x == 2 then record w { arm2 = arm } else record w { arm3 = arm }))

@@ -5,8 +5,23 @@
 #![tactic(auto)]
 
 mod field;
+pub mod laws;
+pub mod lock;
+pub mod mail;
+pub mod owners;
 pub mod resv;
 pub mod run;
+pub mod sense;
+pub mod stamp;
 
+pub use laws::{arms, bit_fields, one_owner, packings, stamps};
+pub use lock::{LockWord, Path};
+pub use mail::{Letter, MailWord};
+pub use owners::owner;
 pub use resv::ResvWord;
 pub use run::RunWord;
+pub use sense::SenseWord;
+pub use stamp::{payload_of, stamp_of, word_of};
+
+#[cfg(test)]
+mod tests;

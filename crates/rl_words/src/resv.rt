@@ -2,10 +2,10 @@ ghost use Rattle.std.specs.Prelude.{◌≡◌, ◌≢◌, ◌+◌, ◌*◌, ◌<
 ghost use Rattle.rl_base.specs.declared.ids.TrainId.{TrainId};
 ghost use Rattle.rl_words.specs.declared.resv.ResvWord.{ResvWord};
 ghost use Rattle.rl_words.specs.Fields.{field};
-ghost use Rattle.rl_words.specs.Resv.{FitsArm, arm_code, FitsResv, packed_resv};
+ghost use Rattle.rl_words.specs.Resv.{FitsArm, arm_code, FitsResv, packed_resv, arm_in, with_arm};
 
 use crate::field::{field, put};
-use rl_base::TrainId;
+use rl_base::{Arm, TrainId};
 
 /// The word of a box that says, for each of its arms, which train holds the segment there, if one does.
 /// Arms that the box doesn't have are free.
@@ -43,6 +43,44 @@ fn arm_at(payload: u32, at: u32) -> Option<Option<TrainId>>
 }
 
 impl ResvWord {
+    /// The train that holds the segment at an arm, if one does.
+    pub fn arm(&self, x: Arm) -> Option<TrainId>
+        requires { x.0 < 4 }
+        ensures { result ≡ arm_in self.now x.0 }
+    {
+        match x.0 {
+            0 => self.arm0,
+            1 => self.arm1,
+            2 => self.arm2,
+            _ => self.arm3,
+        }
+    }
+
+    /// The word with one arm held by the train, or free.
+    pub fn with_arm(self, x: Arm, holder: Option<TrainId>) -> ResvWord
+        requires { x.0 < 4 }
+        ensures { result ≡ with_arm self x.0 holder }
+    {
+        match x.0 {
+            0 => ResvWord {
+                arm0: holder,
+                ..self
+            },
+            1 => ResvWord {
+                arm1: holder,
+                ..self
+            },
+            2 => ResvWord {
+                arm2: holder,
+                ..self
+            },
+            _ => ResvWord {
+                arm3: holder,
+                ..self
+            },
+        }
+    }
+
     /// Arm 0 is in bits 0 to 5, arm 1 in bits 6 to 11, arm 2 in bits 12 to 17, arm 3 in bits 18 to 23: 0 where
     /// it is free, else one more than the number of the train.
     pub fn pack(&self) -> u32

@@ -4,7 +4,8 @@ ghost use Rattle.rl_words.specs.Run.{FitsRun, packed_run};
 
 use crate::field::{field, put};
 
-/// The word by which a train runs: it waits before its step `k`, may go, or is across the box.
+/// The word by which a train and its track say where the train is: on segment `k` of its route, there and on its
+/// way into box `k`, or across that box.
 #[derive(Clone, Copy, Debug, PartialEq, Eq)]
 pub enum RunWord {
     Clear(u32),
