@@ -1,0 +1,4 @@
+pub mod ListsOf
+pub mod Ends
+pub mod Rows
+pub mod Lines

@@ -1,0 +1,14 @@
+//! The tables: what each box and each train has to know of an accepted network, read off it once.
+//!
+//! It gives upward a `Line`, whose rows are in range and name two different segments that their box can
+//! connect, and the text of the tables. A box and a train look into their own table and never into the
+//! network. It knows nothing of what a box answers or where a train is.
+#![tactic(auto)]
+
+mod compiler;
+pub mod line;
+pub mod table;
+
+pub use compiler::compile;
+pub use line::Line;
+pub use table::{BoxTable, BoxTables, StepRow, StepRows, Tables, TrainTable, TrainTables};
