@@ -1,2 +1,5 @@
-pub mod Tables
 pub mod Kept
+pub mod Ranges
+pub mod Starts
+pub mod Tables
+pub mod TablesText

@@ -8,7 +8,9 @@
 mod compiler;
 pub mod line;
 pub mod table;
+pub mod text;
 
 pub use compiler::compile;
 pub use line::Line;
 pub use table::{BoxTable, BoxTables, StepRow, StepRows, Tables, TrainTable, TrainTables};
+pub use text::tables_text;

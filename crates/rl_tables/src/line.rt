@@ -1,8 +1,9 @@
-ghost use Rattle.std.specs.Prelude.{◌≡◌, ◌<◌, length, Some, slice_get};
+ghost use Rattle.std.specs.Prelude.{◌≡◌, ◌<◌, length, Some, slice_get, option_map, IfSome, position, ◌==◌};
 ghost use Rattle.rl_tables.specs.Kept.{IsLine};
+ghost use Rattle.rl_tables.specs.Starts.{holder_of};
 
 use crate::table::{BoxTable, Tables, TrainTable};
-use rl_base::{BoxId, Layout, TrainId};
+use rl_base::{BoxId, Layout, SegId, TrainId};
 use std::marker::Model;
 
 /// The tables of an accepted network, for the boxes and trains that run on it. Contracts see them as
@@ -21,6 +22,14 @@ impl Model for Line {
     ghost view = { λ l. l.tables };
 
     ghost invariant = { λ l. IsLine l.tables };
+}
+
+/// The place of the first train that starts on the segment.
+fn first_place(trains: &[TrainTable], s: SegId) -> Option<usize>
+    ensures place { result ≡ position (λ x. x.first.0 == s.0) trains.now }
+    ensures there { IfSome result (λ t. t < length trains.now) }
+{
+    trains.iter().position(|x| x.first.0 == s.0)
 }
 
 impl Line {
@@ -43,6 +52,22 @@ impl Line {
         }
     }
 
+    /// The tables of the boxes, in order.
+    pub fn box_tables(&self) -> &[BoxTable]
+        ensures tables { result.now ≡ self.now.boxes }
+        ensures line { IsLine self.now }
+    {
+        self.tables.boxes.as_slice()
+    }
+
+    /// The tables of the trains, in order.
+    pub fn train_tables(&self) -> &[TrainTable]
+        ensures tables { result.now ≡ self.now.trains }
+        ensures line { IsLine self.now }
+    {
+        self.tables.trains.as_slice()
+    }
+
     /// The table of the box.
     pub fn box_table(&self, b: BoxId) -> &BoxTable
         requires { b.0 < length self.now.boxes }
@@ -59,5 +84,16 @@ impl Line {
         ensures line { IsLine self.now }
     {
         self.tables.trains.at(t.0 as usize)
+    }
+
+    /// The train that starts on the segment, and so holds it at the start.
+    pub fn holder(&self, s: SegId) -> Option<TrainId>
+        ensures holder { option_map (λ t. t.0) result ≡ holder_of self.now s.0 }
+        ensures there { IfSome result (λ t. t.0 < length self.now.trains) }
+    {
+        match first_place(self.tables.trains.as_slice(), s) {
+            Some(t) => Some(TrainId(t as u32)),
+            None => None,
+        }
     }
 }
