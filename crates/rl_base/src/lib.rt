@@ -7,6 +7,7 @@
 
 pub mod draft;
 pub mod ids;
+pub mod job;
 pub mod kind;
 pub mod layout;
 pub mod memory;
@@ -17,8 +18,9 @@ pub mod text;
 
 pub use draft::{Draft, DraftBox, DraftBoxes, DraftTrain, DraftTrains};
 pub use ids::{Arm, BoxId, NodeNo, SegId, TrainId, WordNo};
+pub use job::{Job, Verb};
 pub use kind::{Kind, Side, arm_count, joins, side_of};
-pub use layout::Layout;
+pub use layout::{Layout, NodeKind, WordKind, numberings};
 pub use memory::NoMemory;
 pub use name::{Name, Names, name_ok};
 pub use place::Place;

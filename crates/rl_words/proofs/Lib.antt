@@ -1,0 +1,3 @@
+mod LockLemmas
+mod MailLemmas
+mod Options
