@@ -4,3 +4,4 @@ pub mod Rows
 pub mod Lines
 pub mod Ranges
 pub mod LineWords
+pub mod Holders

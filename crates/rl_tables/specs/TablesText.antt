@@ -2,6 +2,7 @@
 use Rattle.std.specs.Prelude.{ℕ, suc, List, [], ◌∷◌, ◌++◌, length, Option, Some, None, codes, decimal, flat_map}
 use Rattle.std.specs.Option.{option_map_or}
 use Rattle.rl_base.specs.declared.ids.SegId.{SegId}
+use Rattle.rl_base.specs.declared.ids.TrainId.{TrainId}
 use Rattle.rl_base.specs.declared.kind.Kind.{Kind}
 use Rattle.rl_base.specs.declared.kind.Kind.TheVariants.{Buffer, Joint, Point, Crossing}
 use Rattle.rl_model.specs.declared.network.NetworkPlan.{NetworkPlan}
@@ -21,7 +22,7 @@ kind_word Crossing = codes "crossing"
 
 -- the name of the train that holds segment s at the start, or a star
 abbrev pub holder_word : NetworkPlan → Tables → ℕ → List ℕ
-holder_word net tables s = option_map_or (train_name net) (holder_of tables s) (codes "*")
+holder_word net tables s = option_map_or (λ (t : TrainId). train_name net t.0) (holder_of tables s) (codes "*")
 
 -- the line of arm i with segment s, if the box has that arm
 abbrev pub arm_line : NetworkPlan → Tables → ℕ → Option SegId → List ℕ

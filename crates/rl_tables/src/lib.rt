@@ -7,6 +7,7 @@
 
 mod compiler;
 pub mod line;
+mod starts;
 pub mod table;
 pub mod text;
 

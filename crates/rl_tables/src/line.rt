@@ -1,9 +1,9 @@
-ghost use Rattle.std.specs.Prelude.{◌≡◌, ◌<◌, length, Some, slice_get, option_map, IfSome, position, ◌==◌};
+ghost use Rattle.std.specs.Prelude.{◌≡◌, ◌<◌, length, Some, slice_get};
 ghost use Rattle.rl_tables.specs.Kept.{IsLine};
-ghost use Rattle.rl_tables.specs.Starts.{holder_of};
+ghost use Rattle.rl_tables.specs.Starts.{layout_of};
 
 use crate::table::{BoxTable, Tables, TrainTable};
-use rl_base::{BoxId, Layout, SegId, TrainId};
+use rl_base::{BoxId, Layout, TrainId};
 use std::marker::Model;
 
 /// The tables of an accepted network, for the boxes and trains that run on it. Contracts see them as
@@ -24,14 +24,6 @@ impl Model for Line {
     ghost invariant = { λ l. IsLine l.tables };
 }
 
-/// The place of the first train that starts on the segment.
-fn first_place(trains: &[TrainTable], s: SegId) -> Option<usize>
-    ensures place { result ≡ position (λ x. x.first.0 == s.0) trains.now }
-    ensures there { IfSome result (λ t. t < length trains.now) }
-{
-    trains.iter().position(|x| x.first.0 == s.0)
-}
-
 impl Line {
     pub(crate) fn from_tables(tables: Tables) -> Line
         requires { IsLine tables }
@@ -42,8 +34,7 @@ impl Line {
 
     /// How many boxes and trains there are.
     pub fn layout(&self) -> Layout
-        ensures boxes { result.boxes ≡ length self.now.boxes }
-        ensures trains { result.trains ≡ length self.now.trains }
+        ensures layout { result ≡ layout_of self.now }
         ensures line { IsLine self.now }
     {
         Layout {
@@ -84,16 +75,5 @@ impl Line {
         ensures line { IsLine self.now }
     {
         self.tables.trains.at(t.0 as usize)
-    }
-
-    /// The train that starts on the segment, and so holds it at the start.
-    pub fn holder(&self, s: SegId) -> Option<TrainId>
-        ensures holder { option_map (λ t. t.0) result ≡ holder_of self.now s.0 }
-        ensures there { IfSome result (λ t. t.0 < length self.now.trains) }
-    {
-        match first_place(self.tables.trains.as_slice(), s) {
-            Some(t) => Some(TrainId(t as u32)),
-            None => None,
-        }
     }
 }
