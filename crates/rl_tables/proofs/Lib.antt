@@ -5,3 +5,5 @@ pub mod Lines
 pub mod Ranges
 pub mod LineWords
 pub mod Holders
+pub mod Only
+pub mod ExampleTables

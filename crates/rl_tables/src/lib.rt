@@ -6,12 +6,18 @@
 #![tactic(auto)]
 
 mod compiler;
+pub mod examples;
+pub mod laws;
 pub mod line;
 mod starts;
 pub mod table;
 pub mod text;
 
 pub use compiler::compile;
+pub use laws::tables_of_networks;
 pub use line::Line;
 pub use table::{BoxTable, BoxTables, StepRow, StepRows, Tables, TrainTable, TrainTables};
 pub use text::tables_text;
+
+#[cfg(test)]
+mod tests;
