@@ -6,3 +6,4 @@ pub mod Written
 pub mod Refusals
 pub mod Decisions
 pub mod Statuses
+pub mod Accepted

@@ -8,7 +8,8 @@ use Rattle.rl_direct.specs.Direct.{IsDirectReport}
 use Rattle.rl_outside.specs.Sink.{grown, GrownByPart}
 use Rattle.rl_outside.specs.Causes.{Rose}
 use Rattle.relis.specs.Orders.{Order, order_of, net_of, Check, Drive}
-use Rattle.relis.specs.Judged.{refused_as, judged, Refused}
+use Rattle.relis.specs.Judged.{judged, Refused}
+use Rattle.relis.specs.Accepted.{IsAcceptedAs, IsRefusedAs}
 use Rattle.relis.specs.Lines.{usage_line, read_fault_line, refused_line, accepted_line}
 use Rattle.relis.specs.declared.status.Status.{Status}
 use Rattle.relis.specs.declared.status.Status.TheVariants as status
@@ -28,8 +29,8 @@ IsTextOf (Drive name rounds) net text = IsDriveText net rounds text
 
 -- the order is carried out on a network text of these bytes
 abbrev pub IsAnswerTo : Order → List ℕ → Status → List ℕ → Type 0
-IsAnswerTo order bytes status.Done text = (net : NetworkPlan) × (judged bytes ≡ Ok net) × IsTextOf order net text
-IsAnswerTo order bytes (status.Refused number place) text = (judged bytes ≡ Err (refused_as number place)) × (text ≡ refused_line number place)
+IsAnswerTo order bytes status.Done text = (net : NetworkPlan) × IsAcceptedAs bytes net × IsTextOf order net text
+IsAnswerTo order bytes (status.Refused number place) text = IsRefusedAs bytes number place × (text ≡ refused_line number place)
 IsAnswerTo order bytes _ text = ⊥
 
 -- the bytes are those that the files tell under the name of the order's network, where they tell them
