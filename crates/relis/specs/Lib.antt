@@ -1,6 +1,7 @@
 pub mod Orders
 pub mod Judged
 pub mod Lines
+pub mod Texts
 pub mod Meaning
 pub mod Written
 pub mod Refusals

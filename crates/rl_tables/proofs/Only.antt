@@ -1,5 +1,5 @@
 -- A network has no other tables: what is said of each part leaves no choice.
-use Rattle.std.proofs.Common.{◌≡◌, ℕ, ◌+◌, zero, suc, ◌<◌, ◌≤◌, ◌≢◌, ◌==◌, cond, List, [], ◌∷◌, length, slice_get, Option, Some, None, option_and_then, refl, sym, ap, ◌∙◌, subst, arith}
+use Rattle.std.proofs.Common.{◌≡◌, ℕ, suc, ◌≢◌, List, [], ◌∷◌, length, slice_get, Option, Some, None, refl, sym, ap, ◌∙◌, subst, arith}
 use Rattle.std.specs.Prelude.{option_map}
 use Rattle.std.proofs.lemmas.Bool.Decides.{nat_tests}
 use Rattle.std.proofs.lemmas.Option.{same_Some, option_and_then_some}
@@ -13,7 +13,7 @@ use Rattle.rl_tables.specs.declared.table.BoxTable.{BoxTable}
 use Rattle.rl_tables.specs.declared.table.StepRow.{StepRow}
 use Rattle.rl_tables.specs.declared.table.TrainTable.{TrainTable}
 use Rattle.rl_tables.specs.declared.table.Tables.{Tables}
-use Rattle.rl_tables.specs.Tables.{segment_in, IsListOf, IsBoxTable, IsOtherEnd, IsStepRow, IsTrainTable, AreTablesOf}
+use Rattle.rl_tables.specs.Tables.{IsListOf, IsBoxTable, IsOtherEnd, IsStepRow, IsTrainTable, AreTablesOf}
 
 -- two lists that are as long, with items that belong at their places, where one thing at most belongs at each
 same_items : {A : Type 0} (P : ℕ → A → Type 0) (xs ys : List A) → length xs ≡ length ys → ((k : ℕ) (x : A) → slice_get xs k ≡ Some x → P k x) → ((k : ℕ) (x : A) → slice_get ys k ≡ Some x → P k x) → ((k : ℕ) (x y : A) → P k x → P k y → x ≡ y) → xs ≡ ys
