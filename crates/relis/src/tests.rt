@@ -42,9 +42,14 @@ fn args_of(alloc: Global, words: &[&str]) -> Result<Args, Fail> {
 
 /// The status and the text of these words, where the network text lies under the name `NET`.
 fn answer(alloc: Global, net: &str, words: &[&str]) -> Result<(Status, Vec<u8>), Fail> {
+    answer_on(alloc, net.as_bytes(), words)
+}
+
+/// The status and the text of these words, where these bytes lie under the name `NET`.
+fn answer_on(alloc: Global, net: &[u8], words: &[&str]) -> Result<(Status, Vec<u8>), Fail> {
     let args = args_of(alloc, words)?;
     let mut files = MemFiles::new(alloc, &[])?;
-    files.add("NET", net.as_bytes())?;
+    files.add("NET", net)?;
     let mut out = wide_sink(alloc)?;
     let status = relis_plain(alloc, &args, &mut files, &mut out);
     Ok((status, Vec::from_slice(alloc, out.bytes())?))
@@ -225,6 +230,111 @@ fn accepts_texts(rt: HostRuntime) -> Result<(), Fail> {
         let (status, written) = answer(alloc, net, &["check", "NET"])?;
         assert_eq!(rt; status, Status::Done, "{net}");
         assert_eq!(rt; written.as_slice(), text.as_bytes(), "{net}");
+    }
+    Ok(())
+}
+
+/// Bytes that are no text, keys that stand twice, deep nesting, and other spellings of the same document.
+#[test]
+fn bears_hostile_texts(rt: HostRuntime) -> Result<(), Fail> {
+    let alloc = rt.alloc();
+    let texts: [(&[u8], &[u8]); 14] = [
+        (b"format = 1 # \xff", b"refused 2 none\n"),
+        (b"format = 1 # \xed\xa0\x80", b"refused 2 none\n"),
+        (b"\x00", b"refused 2 none\n"),
+        (b"format = 1 # \x00", b"refused 2 none\n"),
+        (b"format = 1\nsegments = [\"A\x00\"]", b"refused 2 none\n"),
+        (
+            b"format = 1\nsegments = [\"A\\u0000\"]",
+            b"refused 4 segments[0]\n",
+        ),
+        (b"format = 1\n\"format\" = 1", b"refused 2 none\n"),
+        (b"format = 1\nbox.name = 1\n[box]", b"refused 2 none\n"),
+        (b"format = 9223372036854775808", b"refused 2 none\n"),
+        (
+            b"format = 1\nsegments = [[[[[[[[[[[[[[[[]]]]]]]]]]]]]]]]",
+            b"refused 3 segments[0]\n",
+        ),
+        (b"format.a.b.c.d.e.f = 1", b"refused 3 format\n"),
+        (b"format = 1\nbox.name = \"W\"", b"refused 3 box\n"),
+        (
+            b"\"\\u0066ormat\" = 0x1",
+            b"accepted segments 0 boxes 0 trains 0 nodes 0\n",
+        ),
+        (
+            b"format = 1\nbox = [{ name = \"W\", kind = \"buffer\", arms = [\"A\"] }, { arms = [\"A\"], kind = 'buffer', name = \"\"\"E\"\"\" }]\nsegments = [\n  \"A\",\n]",
+            b"accepted segments 1 boxes 2 trains 0 nodes 4\n",
+        ),
+    ];
+    for (net, text) in texts {
+        let wanted = if text.starts_with(b"refused") { 3 } else { 0 };
+        let (status, written) = answer_on(alloc, net, &["check", "NET"])?;
+        assert_eq!(rt; status.number(), wanted);
+        assert_eq!(rt; written.as_slice(), text);
+    }
+    Ok(())
+}
+
+/// A value of no type that a key may have, at each key.
+#[test]
+fn refuses_other_types(rt: HostRuntime) -> Result<(), Fail> {
+    let alloc = rt.alloc();
+    for (head, tail, place) in [
+        ("format = ", "", "format"),
+        ("format = 1\nsegments = ", "", "segments"),
+        ("format = 1\nsegments = [\"A\", ", "]", "segments[1]"),
+        ("format = 1\nbox = ", "", "box"),
+        ("format = 1\nbox = [", "]", "box[0]"),
+        ("format = 1\n[[box]]\nname = ", "", "box[0].name"),
+        (
+            "format = 1\n[[box]]\nname = \"\"\nkind = ",
+            "",
+            "box[0].kind",
+        ),
+        (
+            "format = 1\n[[box]]\nname = \"\"\nkind = \"joint\"\narms = ",
+            "",
+            "box[0].arms",
+        ),
+        (
+            "format = 1\n[[box]]\nname = \"\"\nkind = \"joint\"\narms = [",
+            "]",
+            "box[0].arms[0]",
+        ),
+        (
+            "format = 1\n[[box]]\nname = \"\"\nkind = \"joint\"\narms = []\nat = ",
+            "",
+            "box[0].at",
+        ),
+        ("format = 1\ntrain = ", "", "train"),
+        ("format = 1\ntrain = [", "]", "train[0]"),
+        ("format = 1\n[[train]]\nname = ", "", "train[0].name"),
+        (
+            "format = 1\n[[train]]\nname = \"\"\nroute = ",
+            "",
+            "train[0].route",
+        ),
+        (
+            "format = 1\n[[train]]\nname = \"\"\nroute = [\"\", ",
+            "]",
+            "train[0].route[1]",
+        ),
+    ] {
+        for value in [
+            "9223372036854775807",
+            "-0",
+            "1.0",
+            "nan",
+            "true",
+            "1979-05-27",
+            "07:32:00",
+        ] {
+            let net = format!(in alloc; "{head}{value}{tail}\n")?;
+            let text = format!(in alloc; "refused 3 {place}\n")?;
+            let (status, written) = answer(alloc, net.as_str(), &["check", "NET"])?;
+            assert_eq!(rt; status.number(), 3, "{net}");
+            assert_eq!(rt; written.as_slice(), text.as_bytes(), "{net}");
+        }
     }
     Ok(())
 }
