@@ -6,6 +6,7 @@ use Rattle.relis.specs.declared.status.Status.{Status}
 use Rattle.relis.specs.declared.status.Status.TheVariants as status
 use Rattle.relis.specs.Orders.{Order, order_of, net_of}
 use Rattle.relis.specs.Judged.{Refused, refused_as, judged}
+use Rattle.relis.proofs.Judgements.{judged-accepted, judged-refused}
 use Rattle.relis.specs.Meaning.{LeadsTo, answer_on, answer_for, expected}
 
 -- the answer to an order whose network text was told is the answer on its bytes
@@ -25,8 +26,8 @@ leads_expected words held status.NoMemory text answer leads read h = absurd lead
 leads_expected words held status.Done text answer leads read h =
     let order = leads.0 in
     let bytes = leads.2 in
-    answer_told (held (net_of order)) bytes.0 (Ok bytes.2.0) answer bytes.1 bytes.2.1 (expected_for words held (Some order) answer leads.1 h)
+    answer_told (held (net_of order)) bytes.0 (Ok bytes.2.0) answer bytes.1 (judged-accepted bytes.0 bytes.2.0 bytes.2.1) (expected_for words held (Some order) answer leads.1 h)
 leads_expected words held (status.Refused number place) text answer leads read h =
     let order = leads.0 in
     let bytes = leads.2 in
-    answer_told (held (net_of order)) bytes.0 (Err (refused_as number place)) answer bytes.1 bytes.2.0 (expected_for words held (Some order) answer leads.1 h)
+    answer_told (held (net_of order)) bytes.0 (Err (refused_as number place)) answer bytes.1 (judged-refused bytes.0 number place bytes.2.0) (expected_for words held (Some order) answer leads.1 h)

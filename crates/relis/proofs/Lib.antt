@@ -1,2 +1,4 @@
 pub mod TooLong
 pub mod Expected
+pub mod Judgements
+pub mod Faults

@@ -1,8 +1,10 @@
 pub mod Orders
 pub mod Judged
 pub mod Lines
+pub mod Texts
 pub mod Meaning
 pub mod Written
 pub mod Refusals
 pub mod Decisions
 pub mod Statuses
+pub mod Accepted

@@ -1,35 +1,26 @@
 -- What each answer of the program says of the words, the files and what was written.
 use Rattle.std.specs.Prelude.{◌≡◌, ℕ, List, Option, None, Some, Ok, Err, IfSome, Result, option_map}
 use Rattle.rl_model.specs.declared.network.NetworkPlan.{NetworkPlan}
-use Rattle.rl_model.specs.declared.report.Report.{Report}
-use Rattle.rl_model.specs.Reports.{IsReportOf, IsRightReport}
-use Rattle.rl_model.specs.ReportText.{report_text}
-use Rattle.rl_direct.specs.Direct.{IsDirectReport}
 use Rattle.rl_outside.specs.Sink.{grown, GrownByPart}
 use Rattle.rl_outside.specs.Causes.{Rose}
-use Rattle.relis.specs.Orders.{Order, order_of, net_of, Check, Drive}
-use Rattle.relis.specs.Judged.{refused_as, judged, Refused}
+use Rattle.relis.specs.Orders.{Order, order_of, net_of, Check, Tables, Drive}
+use Rattle.relis.specs.Texts.{IsTablesText, IsDriveText}
+use Rattle.relis.specs.Judged.{judged, Refused}
+use Rattle.relis.specs.Accepted.{IsAcceptedAs, IsRefusedAs}
 use Rattle.relis.specs.Lines.{usage_line, read_fault_line, refused_line, accepted_line}
 use Rattle.relis.specs.declared.status.Status.{Status}
 use Rattle.relis.specs.declared.status.Status.TheVariants as status
 
--- the text is that of a report of so many rounds on the network, and the report is right
-pub record IsDriveText (net : NetworkPlan) (rounds : ℕ) (text : List ℕ) : Type 0 where
-  pub report : Report
-  pub driven : IsDirectReport net 100 rounds report
-  pub formed : IsReportOf net report
-  pub right : IsRightReport net report
-  pub text_is : text ≡ report_text net report
-
 -- the command's own text on an accepted network
 abbrev pub IsTextOf : Order → NetworkPlan → List ℕ → Type 0
 IsTextOf (Check name) net text = text ≡ accepted_line net
+IsTextOf (Tables name) net text = IsTablesText net text
 IsTextOf (Drive name rounds) net text = IsDriveText net rounds text
 
 -- the order is carried out on a network text of these bytes
 abbrev pub IsAnswerTo : Order → List ℕ → Status → List ℕ → Type 0
-IsAnswerTo order bytes status.Done text = (net : NetworkPlan) × (judged bytes ≡ Ok net) × IsTextOf order net text
-IsAnswerTo order bytes (status.Refused number place) text = (judged bytes ≡ Err (refused_as number place)) × (text ≡ refused_line number place)
+IsAnswerTo order bytes status.Done text = (net : NetworkPlan) × IsAcceptedAs bytes net × IsTextOf order net text
+IsAnswerTo order bytes (status.Refused number place) text = IsRefusedAs bytes number place × (text ≡ refused_line number place)
 IsAnswerTo order bytes _ text = ⊥
 
 -- the bytes are those that the files tell under the name of the order's network, where they tell them

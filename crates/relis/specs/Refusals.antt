@@ -1,20 +1,18 @@
 -- The fault of a network text, as its first refusal.
-use Rattle.std.specs.Prelude.{◌≡◌, ℕ, Result, Err}
-use Rattle.rl_base.specs.declared.place.Place.{Place}
+use Rattle.std.specs.Prelude.{ℕ, List}
 use Rattle.rl_base.specs.declared.place.Place.TheVariants as place
-use Rattle.rl_model.specs.declared.network.NetworkPlan.{NetworkPlan}
 use Rattle.rl_syntax.specs.declared.refusal.SyntaxRefusal.{SyntaxRefusal}
 use Rattle.rl_syntax.specs.declared.refusal.SyntaxRefusal.TheVariants as syntax
 use Rattle.rl_net.specs.declared.refusal.NetRefusal.{NetRefusal}
 use Rattle.rl_net.specs.declared.refusal.NetRefusal.TheVariants as rule
 use Rattle.relis.specs.declared.judge.NetworkFault.{NetworkFault}
 use Rattle.relis.specs.declared.judge.NetworkFault.TheVariants as fault
-use Rattle.relis.specs.Judged.{Refused, refused_as}
+use Rattle.relis.specs.Accepted.{IsRefusedAs}
 
--- the fault is the refusal that the text has; want of memory says nothing of it
-abbrev pub IsFaultOf : Result NetworkPlan Refused → NetworkFault → Type 0
-IsFaultOf answer (fault.Refused number place) = answer ≡ Err (refused_as number place)
-IsFaultOf answer fault.NoMemory = Unit {0}
+-- the fault is the first refusal of the text; want of memory says nothing of it
+abbrev pub IsFaultOf : List ℕ → NetworkFault → Type 0
+IsFaultOf text (fault.Refused number place) = IsRefusedAs text number place
+IsFaultOf text fault.NoMemory = Unit {0}
 
 -- the fault that a refusal of the reading is
 abbrev pub fault_of_syntax : SyntaxRefusal → NetworkFault

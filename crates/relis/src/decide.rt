@@ -15,6 +15,7 @@ use rl_net::Network;
 use rl_outside::{Fetch, Files};
 use rl_report::report_text;
 use rl_syntax::MAX_TEXT;
+use rl_tables::{compile, tables_text};
 use rl_text::Out;
 use std::alloc::Global;
 
@@ -35,6 +36,10 @@ fn text_of(alloc: Global, order: Order<'_>, net: &Network) -> Result<Out, NoMemo
 {
     match order {
         Order::Check { .. } => accepted(alloc, net),
+        Order::Tables { .. } => {
+            let line = compile(alloc, net)?;
+            tables_text(alloc, net, &line)
+        }
         Order::Drive { rounds, .. } => {
             let report = drive(alloc, net, rounds, TRIES)?;
             report_text(alloc, net, &report)

@@ -1,8 +1,9 @@
-ghost use Rattle.std.specs.Prelude.{◌≡◌, Ok, Err, IfOk, IfErr};
-ghost use Rattle.relis.specs.Judged.{judged};
+ghost use Rattle.std.specs.Prelude.{◌≡◌, IfOk, IfErr};
+ghost use Rattle.relis.specs.Accepted.{IsAcceptedAs};
 ghost use Rattle.relis.specs.Refusals.{IsFaultOf, fault_of_syntax, fault_of_network};
 
 use rl_base::Place;
+use rl_model::first_refusals;
 use rl_net::{NetRefusal, Network, check};
 use rl_syntax::{SyntaxRefusal, read_draft};
 use std::alloc::Global;
@@ -53,9 +54,10 @@ fn of_network(refusal: NetRefusal) -> NetworkFault
 
 /// The network of a text, or its first refusal.
 pub fn judge(alloc: Global, text: &[u8]) -> Result<Network, NetworkFault>
-    ensures network { IfOk result (λ net. judged text.now ≡ Ok net) }
-    ensures refused { IfErr result (IsFaultOf (judged text.now)) }
+    ensures accepted { IfOk result (IsAcceptedAs text.now) }
+    ensures refused { IfErr result (IsFaultOf text.now) }
 {
+    first_refusals();
     let draft = match read_draft(alloc, text) {
         Ok(draft) => draft,
         Err(refusal) => return Err(of_syntax(refusal)),

@@ -1,6 +1,6 @@
 ghost use Rattle.std.specs.Prelude.{◌≡◌, option_map, IfSome};
 ghost use Rattle.relis.specs.Written.{order_as, HasFewRounds};
-ghost use Rattle.relis.specs.Orders.{order_of, net_of, is_positional, drive_order, check_order};
+ghost use Rattle.relis.specs.Orders.{order_of, net_of, is_positional, drive_order, command_on, net_order};
 
 use rl_base::Args;
 use rl_text::read_number;
@@ -12,6 +12,7 @@ const MAX_ROUNDS: u64 = 1_000_000;
 #[derive(Clone, Copy, Debug)]
 pub enum Order<'a> {
     Check { net: &'a str },
+    Tables { net: &'a str },
     Drive { net: &'a str, rounds: u32 },
 }
 
@@ -22,6 +23,7 @@ impl<'a> Order<'a> {
     {
         match self {
             Order::Check { net } => net,
+            Order::Tables { net } => net,
             Order::Drive { net, .. } => net,
         }
     }
@@ -34,13 +36,24 @@ fn is_positional(word: &str) -> bool
     !bytes.is_empty() && bytes[0] != b'-'
 }
 
-/// `check NET`.
-fn check_order<'a>(name: &str, net: &'a str) -> Option<Order<'a>>
-    ensures order { option_map order_as result ≡ check_order name.now net.now }
+fn command_on<'a>(name: &str, net: &'a str) -> Option<Order<'a>>
+    ensures order { option_map order_as result ≡ command_on name.now net.now }
     ensures few { IfSome result HasFewRounds }
 {
-    if name == "check" && is_positional(net) {
-        Some(Order::Check { net })
+    match name {
+        "check" => Some(Order::Check { net }),
+        "tables" => Some(Order::Tables { net }),
+        _ => None,
+    }
+}
+
+/// `check NET` or `tables NET`.
+fn net_order<'a>(name: &str, net: &'a str) -> Option<Order<'a>>
+    ensures order { option_map order_as result ≡ net_order name.now net.now }
+    ensures few { IfSome result HasFewRounds }
+{
+    if is_positional(net) {
+        command_on(name, net)
     } else {
         None
     }
@@ -69,7 +82,7 @@ pub fn order_of(words: &Args) -> Option<Order<'_>>
     ensures few { IfSome result HasFewRounds }
 {
     match words.as_slice() {
-        [name, net] => check_order(name.as_str(), net.as_str()),
+        [name, net] => net_order(name.as_str(), net.as_str()),
         [name, net, n] => drive_order(name.as_str(), net.as_str(), n.as_str()),
         _ => None,
     }

@@ -23,9 +23,21 @@ const N9: &str =
 const N11: &str =
     "format = 1\nsegments = [\"A\", \"B\"]\n\n[[box]]\nname = \"J1\"\nkind = \"joint\"\narms = [\"A\", \"B\"]\n\n[[box]]\nname = \"J2\"\nkind = \"joint\"\narms = [\"A\", \"B\"]\n\n[[train]]\nname = \"T1\"\nroute = [\"A\", \"J2\", \"B\"]\n";
 
+/// N1 without its train.
+const TRACK: &str =
+    "format = 1\nsegments = [\"A\", \"B\"]\n\n[[box]]\nname = \"W\"\nkind = \"buffer\"\narms = [\"A\"]\n\n[[box]]\nname = \"J1\"\nkind = \"joint\"\narms = [\"A\", \"B\"]\n\n[[box]]\nname = \"E\"\nkind = \"buffer\"\narms = [\"B\"]\n";
+
+/// N1 where the joint has the name of a segment.
+const JOINT_A: &str =
+    "format = 1\nsegments = [\"A\", \"B\"]\n\n[[box]]\nname = \"W\"\nkind = \"buffer\"\narms = [\"A\"]\n\n[[box]]\nname = \"A\"\nkind = \"joint\"\narms = [\"A\", \"B\"]\n\n[[box]]\nname = \"E\"\nkind = \"buffer\"\narms = [\"B\"]\n\n[[train]]\nname = \"A\"\nroute = [\"A\", \"A\", \"B\"]\n";
+
 /// The text of `drive N1 200`, worked out by hand.
 const ONE_STEP: &str =
     "relis report 1\ntries 100\nreserve T1 B J1\nreserve T1 B E\nlock T1 J1 A B\nenter T1 J1 A B\nleave T1 A\nunlock T1 J1\nrelease T1 A J1\nrelease T1 A W\ntrain T1 arrived 1 0\nend\n";
+
+/// The text of `tables N1`, worked out by hand.
+const ONE_STEP_TABLES: &str =
+    "relis tables 1\nbox 0 W buffer left\narm 0 A T1\nbox 1 J1 joint left\narm 0 A T1\narm 1 B *\nbox 2 E buffer left\narm 0 B *\ntrain 0 T1 1\nstep 0 J1 0 1 E 0 W 0\nend\n";
 
 /// A sink that takes the whole text in one put.
 fn wide_sink(alloc: Global) -> Result<MemSink, Fail> {
@@ -206,7 +218,11 @@ fn refuses_texts(rt: HostRuntime) -> Result<(), Fail> {
             "refused 3 segments\n",
         ),
     ] {
-        for words in [["check", "NET"].as_slice(), &["drive", "NET", "5"]] {
+        for words in [
+            ["check", "NET"].as_slice(),
+            &["tables", "NET"],
+            &["drive", "NET", "5"],
+        ] {
             let (status, written) = answer(alloc, net, words)?;
             assert_eq!(rt; status.number(), 3, "{net}");
             assert_eq!(rt; written.as_slice(), text.as_bytes(), "{net}");
@@ -224,10 +240,74 @@ fn accepts_texts(rt: HostRuntime) -> Result<(), Fail> {
             "format = 1\n",
             "accepted segments 0 boxes 0 trains 0 nodes 0\n",
         ),
+        (
+            "format = 1\nsegments = []\nbox = []\ntrain = []\n",
+            "accepted segments 0 boxes 0 trains 0 nodes 0\n",
+        ),
+        (TRACK, "accepted segments 2 boxes 3 trains 0 nodes 6\n"),
+        (JOINT_A, "accepted segments 2 boxes 3 trains 1 nodes 8\n"),
         (N5, "accepted segments 3 boxes 4 trains 1 nodes 10\n"),
         (N8, "accepted segments 4 boxes 5 trains 2 nodes 14\n"),
     ] {
         let (status, written) = answer(alloc, net, &["check", "NET"])?;
+        assert_eq!(rt; status, Status::Done, "{net}");
+        assert_eq!(rt; written.as_slice(), text.as_bytes(), "{net}");
+    }
+    Ok(())
+}
+
+/// N1 with one train, which goes to and fro so many steps.
+fn to_and_fro(alloc: Global, steps: u32) -> Result<String, Fail> {
+    let mut text = TRACK.to_string(alloc)?;
+    text.push_str("\n[[train]]\nname = \"T\"\nroute = [\"A\"")?;
+    for k in 0..steps {
+        text.push_str(if k % 2 == 0 {
+            ", \"J1\", \"B\""
+        } else {
+            ", \"J1\", \"A\""
+        })?;
+    }
+    text.push_str("]\n")?;
+    Ok(text)
+}
+
+/// N1 with so many trains, all on one segment.
+fn crowded(alloc: Global, trains: u32) -> Result<String, Fail> {
+    let mut text = TRACK.to_string(alloc)?;
+    for t in 0..trains {
+        let train = format!(in alloc; "\n[[train]]\nname = \"T{t}\"\nroute = [\"A\"]\n")?;
+        text.push_str(train.as_str())?;
+    }
+    Ok(text)
+}
+
+/// At most 64 steps and 32 trains.
+#[test]
+fn counts_steps_and_trains(rt: HostRuntime) -> Result<(), Fail> {
+    let alloc = rt.alloc();
+    for (net, text) in [
+        (
+            to_and_fro(alloc, 64)?,
+            "accepted segments 2 boxes 3 trains 1 nodes 8\n",
+        ),
+        (to_and_fro(alloc, 65)?, "refused 5 train[0].route\n"),
+        (crowded(alloc, 32)?, "refused 15 train[1].route[0]\n"),
+        (crowded(alloc, 33)?, "refused 5 train\n"),
+    ] {
+        let (_, written) = answer(alloc, net.as_str(), &["check", "NET"])?;
+        assert_eq!(rt; written.as_slice(), text.as_bytes());
+    }
+    Ok(())
+}
+
+#[test]
+fn prints_tables(rt: HostRuntime) -> Result<(), Fail> {
+    let alloc = rt.alloc();
+    for (net, text) in [
+        (N1, ONE_STEP_TABLES),
+        ("format = 1\n", "relis tables 1\nend\n"),
+    ] {
+        let (status, written) = answer(alloc, net, &["tables", "NET"])?;
         assert_eq!(rt; status, Status::Done, "{net}");
         assert_eq!(rt; written.as_slice(), text.as_bytes(), "{net}");
     }
@@ -375,6 +455,8 @@ fn refuses_words(rt: HostRuntime) -> Result<(), Fail> {
         &["check"],
         &["check", "-NET"],
         &["check", "NET", "5"],
+        &["tables", "-NET"],
+        &["tables", "NET", "5"],
         &["run", "NET"],
     ] {
         let (status, written) = answer(alloc, N1, words)?;

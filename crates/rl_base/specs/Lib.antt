@@ -1,3 +1,4 @@
 pub mod Draft
 pub mod Kind
+pub mod Layout
 pub mod Name

@@ -7,18 +7,22 @@
 
 pub mod draft;
 pub mod ids;
+pub mod job;
 pub mod kind;
 pub mod layout;
 pub mod memory;
 pub mod name;
 pub mod place;
 pub mod sequence;
+#[cfg(test)]
+mod tests;
 pub mod text;
 
 pub use draft::{Draft, DraftBox, DraftBoxes, DraftTrain, DraftTrains};
 pub use ids::{Arm, BoxId, NodeNo, SegId, TrainId, WordNo};
+pub use job::{Job, Verb};
 pub use kind::{Kind, Side, arm_count, joins, side_of};
-pub use layout::Layout;
+pub use layout::{Layout, NodeKind, WordKind, numberings};
 pub use memory::NoMemory;
 pub use name::{Name, Names, name_ok};
 pub use place::Place;

@@ -1,4 +1,4 @@
-ghost use Rattle.std.specs.Prelude.{◌≡◌, ◌+◌, ◌<◌, ◌≤◌, ℕ, true, length, slice_get, replicate, Some, IfOk, OnOk, IsTrue, IsTrue};
+ghost use Rattle.std.specs.Prelude.{◌≡◌, ◌+◌, ◌<◌, ◌≤◌, ℕ, true, length, slice_get, replicate, Some, IfOk, OnOk, IsTrue, ◌↔◌};
 ghost use Rattle.rl_model.specs.Moves.{IsTrainOf};
 ghost use Rattle.rl_domain.specs.Tables.{world_of, Fits};
 ghost use Rattle.rl_direct.specs.Direct.{rests, start_mind};
@@ -109,7 +109,7 @@ impl<'a> Driving<'a> {
     /// Whether every train rests, so that more rounds change nothing.
     pub fn at_rest(&self) -> bool
         requires { StandsAt self.now 0 }
-        ensures { IsTrue result → AllRest self.now }
+        ensures { IsTrue result ↔ AllRest self.now }
     {
         for t in 0..self.net.trains() {
             if !rests(self.net, TrainId(t), self.mind(TrainId(t))) {
@@ -143,6 +143,7 @@ impl<'a> Driving<'a> {
         requires tries { self.old.tries ≤ 1000 }
         requires few { rounds ≤ 1000000 }
         ensures driven { OnOk result (IsDrivenFor self.new rounds) }
+        ensures stands { OnOk result (StandsAt self.new 0) }
         ensures net { self.new.net.now ≡ self.old.net.now }
         ensures tries { self.new.tries ≡ self.old.tries }
     {

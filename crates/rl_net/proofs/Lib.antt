@@ -4,3 +4,4 @@ pub mod Few
 pub mod Numbers
 pub mod Passages
 pub mod Search
+pub mod Tables

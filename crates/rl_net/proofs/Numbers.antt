@@ -1,8 +1,10 @@
 -- The place of a name among the names of a list, found item by item.
-use Rattle.std.proofs.Common.{◌≡◌, ℕ, zero, suc, ◌<◌, Bool, true, false, cond, List, [], ◌∷◌, length, take, map, get_or, slice_get, Option, Some, None, is_some, option_map, refl, ap, ◌∙◌, arith, bytes_eq}
-use Rattle.std.proofs.lemmas.List.{take-map}
+use Rattle.std.proofs.Common.{◌≡◌, ℕ, zero, suc, ◌<◌, Bool, true, false, cond, List, [], ◌∷◌, length, take, map, get_or, slice_get, Option, Some, None, IfSome, is_some, option_map, refl, ap, ◌∙◌, subst, arith, bytes_eq}
+use Rattle.std.proofs.lemmas.List.{take-map, length-map}
 use Rattle.std.proofs.lemmas.Option.{slice_get-map, slice_get_read}
-use Rattle.rl_model.specs.Drafts.{number_in}
+use Rattle.rl_base.specs.declared.draft.DraftBox.{DraftBox}
+use Rattle.rl_base.specs.declared.draft.Draft.{Draft}
+use Rattle.rl_model.specs.Drafts.{number_in, box_names}
 use Rattle.rl_model.specs.Refusals.{is_twice}
 
 -- where no name of the list is found, the first one isn't it, and none of the others is
@@ -39,3 +41,17 @@ is_twice_at f xs i x lt e =
     let here = slice_get_read xs (length xs) i x refl lt e in
     let there : slice_get (map f xs) i ≡ Some (f x) = slice_get-map f xs i ∙ ap (option_map f) here in
     rw (there, take-map f i xs) refl
+
+-- a number that is found is the place of one of the names
+pub number_in_within : (names : List (List ℕ)) (name : List ℕ) → IfSome (number_in names name) (λ i. i < length names)
+number_in_within [] name = tt
+number_in_within (n ∷ ns) name = step (bytes_eq n name) (number_in ns name) (number_in_within ns name)
+  where
+    step : (b : Bool) (o : Option ℕ) → IfSome o (λ i. i < length ns) → IfSome (cond b (Some 0) (option_map suc o)) (λ i. i < suc (length ns))
+    step true o h = omega arith
+    step false None h = tt
+    step false (Some i) h = omega arith
+
+pub box_number_within : (d : Draft) (name : List ℕ) → IfSome (number_in (box_names d) name) (λ b. b < length d.boxes)
+box_number_within d name =
+    subst (λ (m : ℕ). IfSome (number_in (box_names d) name) (λ b. b < m)) (length-map d.boxes (λ (x : DraftBox). x.name)) (number_in_within (box_names d) name)

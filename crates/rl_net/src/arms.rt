@@ -5,7 +5,8 @@ ghost use Rattle.rl_model.specs.Refusals as rule;
 ghost use Rattle.rl_net.specs.Rows.{among_arms_of};
 ghost use Rattle.rl_net.specs.Sizes.{HasFewItems, HasFewArms};
 
-use crate::names::{is_named_twice, number_among};
+use crate::index::DraftIndex;
+use crate::names::is_named_twice;
 use rl_base::{Draft, Place, arm_count};
 
 fn has_wrong_arm_count(draft: &Draft, i: usize) -> bool
@@ -30,24 +31,24 @@ pub(crate) fn first_arm_count(draft: &Draft) -> Option<Place>
     None
 }
 
-fn is_no_segment(draft: &Draft, i: usize, j: usize) -> bool
-    requires box_in { i < length draft.now.boxes }
-    requires arm_in { j < arms_at draft.now i }
-    ensures { result ≡ breaks draft.now rule.NoSegment (place.BoxArm i j) }
+fn is_no_segment(index: &DraftIndex<'_>, i: usize, j: usize) -> bool
+    requires box_in { i < length index.now.boxes }
+    requires arm_in { j < arms_at index.now i }
+    ensures { result ≡ breaks index.now rule.NoSegment (place.BoxArm i j) }
 {
-    let arm = draft.boxes.at(i).arms.at(j);
-    number_among(&draft.segments, arm.bytes()).is_none()
+    let arm = index.draft().boxes.at(i).arms.at(j);
+    index.segment_number(arm.bytes()).is_none()
 }
 
 /// The first arm of box `i` whose name is no segment.
-fn first_strange_arm(draft: &Draft, i: usize) -> Option<Place>
-    requires few { length draft.now.boxes ≤ 128 }
-    requires box_in { i < length draft.now.boxes }
-    requires arms { arms_at draft.now i ≤ 4 }
-    ensures { result ≡ among_arms_of draft.now rule.NoSegment i }
+fn first_strange_arm(index: &DraftIndex<'_>, i: usize) -> Option<Place>
+    requires few { length index.now.boxes ≤ 128 }
+    requires box_in { i < length index.now.boxes }
+    requires arms { arms_at index.now i ≤ 4 }
+    ensures { result ≡ among_arms_of index.now rule.NoSegment i }
 {
-    for j in 0..draft.boxes.at(i).arms.len() {
-        if is_no_segment(draft, i, j) {
+    for j in 0..index.draft().boxes.at(i).arms.len() {
+        if is_no_segment(index, i, j) {
             return Some(Place::BoxArm(i as u32, j as u32));
         }
     }
@@ -55,13 +56,13 @@ fn first_strange_arm(draft: &Draft, i: usize) -> Option<Place>
 }
 
 /// The first arm whose name is no segment.
-pub(crate) fn first_no_segment(draft: &Draft) -> Option<Place>
-    requires items { HasFewItems draft.now }
-    requires arms { HasFewArms draft.now }
-    ensures { result ≡ first_place draft.now rule.NoSegment }
+pub(crate) fn first_no_segment(index: &DraftIndex<'_>) -> Option<Place>
+    requires items { HasFewItems index.now }
+    requires arms { HasFewArms index.now }
+    ensures { result ≡ first_place index.now rule.NoSegment }
 {
-    for i in 0..draft.boxes.len() {
-        if let Some(place) = first_strange_arm(draft, i) {
+    for i in 0..index.draft().boxes.len() {
+        if let Some(place) = first_strange_arm(index, i) {
             return Some(place);
         }
     }

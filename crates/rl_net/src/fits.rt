@@ -6,8 +6,9 @@ ghost use Rattle.rl_model.specs.Refusals as rule;
 ghost use Rattle.rl_net.specs.Rows.{among_places_of};
 ghost use Rattle.rl_net.specs.Sizes.{HasFewItems, HasFewArms};
 
-use crate::names::{box_number_of, number_among};
-use rl_base::{Arm, Draft, DraftBox, Names, Place, Side, joins};
+use crate::index::DraftIndex;
+use crate::names::number_among;
+use rl_base::{Arm, DraftBox, Names, Place, Side, joins};
 
 /// The arm of the box that has the segment at place `k` of the route.
 fn arm_for(x: &DraftBox, route: &Names, k: usize) -> Option<Arm>
@@ -40,39 +41,39 @@ fn connects_at(x: &DraftBox, route: &Names, j: usize) -> bool
 }
 
 /// Whether the box at place `j` of the route connects the segments before and after it.
-fn fits(draft: &Draft, route: &Names, j: usize) -> bool
-    requires arms { HasFewArms draft.now }
+fn fits(index: &DraftIndex<'_>, route: &Names, j: usize) -> bool
+    requires arms { HasFewArms index.now }
     requires places { length route.now ≤ 129 }
     requires place_in { j < length route.now }
     requires box_place { 0 < j }
-    ensures { result ≡ fits_at draft.now route.now j }
+    ensures { result ≡ fits_at index.now route.now j }
 {
-    match box_number_of(draft, route.at(j).bytes()) {
-        Some(b) => connects_at(draft.boxes.at(b), route, j),
+    match index.box_number(route.at(j).bytes()) {
+        Some(b) => connects_at(index.draft().boxes.at(b), route, j),
         None => false,
     }
 }
 
-fn is_unfit(draft: &Draft, i: usize, j: usize) -> bool
-    requires arms { HasFewArms draft.now }
-    requires train_in { i < length draft.now.trains }
-    requires places { route_length draft.now i ≤ 129 }
-    requires place_in { j < route_length draft.now i }
-    ensures { result ≡ breaks draft.now rule.RouteFit (place.RouteItem i j) }
+fn is_unfit(index: &DraftIndex<'_>, i: usize, j: usize) -> bool
+    requires arms { HasFewArms index.now }
+    requires train_in { i < length index.now.trains }
+    requires places { route_length index.now i ≤ 129 }
+    requires place_in { j < route_length index.now i }
+    ensures { result ≡ breaks index.now rule.RouteFit (place.RouteItem i j) }
 {
-    j % 2 == 1 && !fits(draft, &draft.trains.at(i).route, j)
+    j % 2 == 1 && !fits(index, &index.draft().trains.at(i).route, j)
 }
 
 /// The first place of route `i` whose box connects no such segments.
-fn first_unfit_place(draft: &Draft, i: usize) -> Option<Place>
-    requires arms { HasFewArms draft.now }
-    requires few { length draft.now.trains ≤ 32 }
-    requires train_in { i < length draft.now.trains }
-    requires places { route_length draft.now i ≤ 129 }
-    ensures { result ≡ among_places_of draft.now rule.RouteFit i }
+fn first_unfit_place(index: &DraftIndex<'_>, i: usize) -> Option<Place>
+    requires arms { HasFewArms index.now }
+    requires few { length index.now.trains ≤ 32 }
+    requires train_in { i < length index.now.trains }
+    requires places { route_length index.now i ≤ 129 }
+    ensures { result ≡ among_places_of index.now rule.RouteFit i }
 {
-    for j in 0..draft.trains.at(i).route.len() {
-        if is_unfit(draft, i, j) {
+    for j in 0..index.draft().trains.at(i).route.len() {
+        if is_unfit(index, i, j) {
             return Some(Place::RouteItem(i as u32, j as u32));
         }
     }
@@ -80,13 +81,13 @@ fn first_unfit_place(draft: &Draft, i: usize) -> Option<Place>
 }
 
 /// The first route place whose box connects no such segments.
-pub(crate) fn first_route_fit(draft: &Draft) -> Option<Place>
-    requires items { HasFewItems draft.now }
-    requires arms { HasFewArms draft.now }
-    ensures { result ≡ first_place draft.now rule.RouteFit }
+pub(crate) fn first_route_fit(index: &DraftIndex<'_>) -> Option<Place>
+    requires items { HasFewItems index.now }
+    requires arms { HasFewArms index.now }
+    ensures { result ≡ first_place index.now rule.RouteFit }
 {
-    for i in 0..draft.trains.len() {
-        if let Some(place) = first_unfit_place(draft, i) {
+    for i in 0..index.draft().trains.len() {
+        if let Some(place) = first_unfit_place(index, i) {
             return Some(place);
         }
     }

@@ -11,6 +11,7 @@ mod arms;
 mod counts;
 mod ends;
 mod fits;
+mod index;
 mod names;
 pub mod network;
 mod plan;
@@ -18,6 +19,7 @@ pub mod refusal;
 mod routes;
 mod sides;
 mod starts;
+mod table;
 mod twice;
 
 pub use acceptance::check;

@@ -1,8 +1,8 @@
 ghost use Rattle.std.specs.Prelude.{◌≡◌, ◌<◌, ℕ, List, length, map, IfSome};
-ghost use Rattle.rl_model.specs.Drafts.{number_in, box_names};
+ghost use Rattle.rl_model.specs.Drafts.{number_in};
 ghost use Rattle.rl_model.specs.Refusals.{is_twice};
 
-use rl_base::{Draft, DraftBox, DraftTrain, Name, Names};
+use rl_base::{DraftBox, DraftTrain, Name, Names};
 
 /// An item of a draft that has a name.
 pub(crate) trait Named {
@@ -63,12 +63,4 @@ pub(crate) fn number_among(names: &Names, name: &[u8]) -> Option<usize>
     ensures within { IfSome result (λ i. i < length names.now) }
 {
     number_of(names.as_slice(), name)
-}
-
-/// The number of the box of that name.
-pub(crate) fn box_number_of(draft: &Draft, name: &[u8]) -> Option<usize>
-    ensures number { result ≡ number_in (box_names draft.now) name.now }
-    ensures within { IfSome result (λ b. b < length draft.now.boxes) }
-{
-    number_of(draft.boxes.as_slice(), name)
 }

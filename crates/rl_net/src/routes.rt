@@ -5,7 +5,7 @@ ghost use Rattle.rl_model.specs.Refusals as rule;
 ghost use Rattle.rl_net.specs.Rows.{among_places_of};
 ghost use Rattle.rl_net.specs.Sizes.{HasFewItems};
 
-use crate::names::{box_number_of, number_among};
+use crate::index::DraftIndex;
 use rl_base::{Draft, Place};
 
 fn is_even_route(draft: &Draft, i: usize) -> bool
@@ -28,28 +28,28 @@ pub(crate) fn first_route_shape(draft: &Draft) -> Option<Place>
     None
 }
 
-fn is_wrong_name(draft: &Draft, i: usize, j: usize) -> bool
-    requires train_in { i < length draft.now.trains }
-    requires place_in { j < route_length draft.now i }
-    ensures { result ≡ breaks draft.now rule.RouteName (place.RouteItem i j) }
+fn is_wrong_name(index: &DraftIndex<'_>, i: usize, j: usize) -> bool
+    requires train_in { i < length index.now.trains }
+    requires place_in { j < route_length index.now i }
+    ensures { result ≡ breaks index.now rule.RouteName (place.RouteItem i j) }
 {
-    let name = draft.trains.at(i).route.at(j).bytes();
+    let name = index.draft().trains.at(i).route.at(j).bytes();
     if j % 2 == 0 {
-        number_among(&draft.segments, name).is_none()
+        index.segment_number(name).is_none()
     } else {
-        box_number_of(draft, name).is_none()
+        index.box_number(name).is_none()
     }
 }
 
 /// The first place of route `i` that should name a segment or a box and doesn't.
-fn first_wrong_name(draft: &Draft, i: usize) -> Option<Place>
-    requires few { length draft.now.trains ≤ 32 }
-    requires train_in { i < length draft.now.trains }
-    requires places { route_length draft.now i ≤ 129 }
-    ensures { result ≡ among_places_of draft.now rule.RouteName i }
+fn first_wrong_name(index: &DraftIndex<'_>, i: usize) -> Option<Place>
+    requires few { length index.now.trains ≤ 32 }
+    requires train_in { i < length index.now.trains }
+    requires places { route_length index.now i ≤ 129 }
+    ensures { result ≡ among_places_of index.now rule.RouteName i }
 {
-    for j in 0..draft.trains.at(i).route.len() {
-        if is_wrong_name(draft, i, j) {
+    for j in 0..index.draft().trains.at(i).route.len() {
+        if is_wrong_name(index, i, j) {
             return Some(Place::RouteItem(i as u32, j as u32));
         }
     }
@@ -57,12 +57,12 @@ fn first_wrong_name(draft: &Draft, i: usize) -> Option<Place>
 }
 
 /// The first route place that should name a segment or a box and doesn't.
-pub(crate) fn first_route_name(draft: &Draft) -> Option<Place>
-    requires { HasFewItems draft.now }
-    ensures { result ≡ first_place draft.now rule.RouteName }
+pub(crate) fn first_route_name(index: &DraftIndex<'_>) -> Option<Place>
+    requires { HasFewItems index.now }
+    ensures { result ≡ first_place index.now rule.RouteName }
 {
-    for i in 0..draft.trains.len() {
-        if let Some(place) = first_wrong_name(draft, i) {
+    for i in 0..index.draft().trains.len() {
+        if let Some(place) = first_wrong_name(index, i) {
             return Some(place);
         }
     }

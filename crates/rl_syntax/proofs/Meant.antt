@@ -55,7 +55,7 @@ by_document : (text : List ℕ) → length text ≤ 65536 → (o : Option Member
 by_document text short None e = (short, λ m is. let k = is_document text m is in cc)
 by_document text short (Some m) e = by_reading text m (document_is text m short e) (draft_of m) refl
 
-answer_means : (text : List ℕ) → Means text (answer_to text)
+pub answer_means : (text : List ℕ) → Means text (answer_to text)
 unfolding answer_to
 answer_means text = by_length (nat_lt 65536 (length text)) refl
   where
@@ -112,7 +112,7 @@ unfolding answer_to
 too_long text long = let e : nat_lt 65536 (length text) ≡ true = grind (arith, nat_tests) in rw e
 
 -- what means this of the text is its answer
-answer_to-from_means : (text : List ℕ) (r : Result Draft SyntaxRefusal) → Means text r → answer_to text ≡ r
+pub answer_to-from_means : (text : List ℕ) (r : Result Draft SyntaxRefusal) → Means text r → answer_to text ≡ r
 answer_to-from_means text (Ok d) (m, is, has, names) = answer_draft text m d is has ∙ ap (unless_bad d) (first-from_HasNames d names)
 answer_to-from_means text (Err TooLong) h = too_long text h
 answer_to-from_means text (Err NotToml) (short, none) = answer_short text short ∙ ap of_document (no_document text short none)

@@ -4,4 +4,4 @@ use Rattle.rl_net.specs.Rows.{among_arms_of}
 use Rattle.rl_net.proofs.arms.first_no_segment.Given as goal
 
 abbrev pub invariant-loop-i : goal.invariant-loop-i
-invariant-loop-i l = first_below (among_arms_of l.draft NoSegment) l.i ≡ None
+invariant-loop-i l = first_below (among_arms_of l.index NoSegment) l.i ≡ None

@@ -3,4 +3,4 @@ use Rattle.rl_model.specs.Drafts.{segment_number}
 use Rattle.rl_net.proofs.plan.segment_ids.Given as goal
 
 abbrev pub invariant-loop-name : goal.invariant-loop-name
-invariant-loop-name l = l.ids ≡ map (segment_number l.draft) (take l.name-index l.names)
+invariant-loop-name l = l.ids ≡ map (segment_number l.index) (take l.name-index l.names)

@@ -1,4 +1,5 @@
-use Rattle.std.proofs.Common.{length, arith, sym}
+use Rattle.std.proofs.Common.{length, arith, sym, ap}
+use Rattle.rl_base.specs.declared.draft.Draft.{Draft}
 use Rattle.rl_model.specs.Refusals.{RouteName}
 use Rattle.rl_net.specs.Rows.{among_places_of}
 use Rattle.rl_net.proofs.Search.{first_below_found}
@@ -6,5 +7,5 @@ use Rattle.rl_net.proofs.routes.first_route_name.Goals as goal
 
 pub returns-in-Some : goal.returns-in-Some
 returns-in-Some c =
-    let d = c.args.draft.now in
-    sym (first_below_found (among_places_of d RouteName) c.loop-i.i (length d.trains) c.in-Some.place c.loop-i.invariant (sym c.in-Some.ensures) (omega arith))
+    let d = c.args.index.now in
+    sym (first_below_found (among_places_of d RouteName) c.loop-i.i (length d.trains) c.in-Some.place c.loop-i.invariant (sym c.in-Some.ensures) (omega (arith, ap (λ (x : Draft). length x.trains) c.draft.ensures)))

@@ -4,4 +4,4 @@ use Rattle.rl_net.specs.Rows.{among_places_of}
 use Rattle.rl_net.proofs.routes.first_route_name.Given as goal
 
 abbrev pub invariant-loop-i : goal.invariant-loop-i
-invariant-loop-i l = first_below (among_places_of l.draft RouteName) l.i ≡ None
+invariant-loop-i l = first_below (among_places_of l.index RouteName) l.i ≡ None

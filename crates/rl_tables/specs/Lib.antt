@@ -1,0 +1,6 @@
+pub mod Examples
+pub mod Kept
+pub mod Ranges
+pub mod Starts
+pub mod Tables
+pub mod TablesText

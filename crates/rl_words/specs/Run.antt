@@ -1,0 +1,15 @@
+use Rattle.std.specs.Prelude.{ℕ, ◌+◌, ◌*◌, ◌^◌, ◌≤◌}
+use Rattle.rl_words.specs.declared.run.RunWord.{RunWord}
+use Rattle.rl_words.specs.declared.run.RunWord.TheVariants.{Clear, Go, Across}
+
+-- the step is one of a route of at most 64 steps
+abbrev pub FitsRun : RunWord → Type 0
+FitsRun (Clear k) = k ≤ 64
+FitsRun (Go k) = k ≤ 63
+FitsRun (Across k) = k ≤ 63
+
+-- the tag in bits 0 and 1, the step in bits 2 to 8
+abbrev pub packed_run : RunWord → ℕ
+packed_run (Clear k) = k * 2 ^ 2
+packed_run (Go k) = 1 + k * 2 ^ 2
+packed_run (Across k) = 2 + k * 2 ^ 2

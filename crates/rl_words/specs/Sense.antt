@@ -1,0 +1,15 @@
+use Rattle.std.specs.Prelude.{ℕ, ◌+◌, ◌*◌, ◌^◌, ◌≤◌}
+use Rattle.rl_words.specs.declared.sense.SenseWord.{SenseWord}
+use Rattle.rl_words.specs.declared.sense.SenseWord.TheVariants.{Quiet, Head, Tail}
+
+-- the step is one of a route of at most 64 steps
+abbrev pub FitsSense : SenseWord → Type 0
+FitsSense (Quiet k) = k ≤ 64
+FitsSense (Head k) = k ≤ 63
+FitsSense (Tail k) = k ≤ 63
+
+-- the tag in bits 0 and 1, the step in bits 2 to 8
+abbrev pub packed_sense : SenseWord → ℕ
+packed_sense (Quiet k) = k * 2 ^ 2
+packed_sense (Head k) = 1 + k * 2 ^ 2
+packed_sense (Tail k) = 2 + k * 2 ^ 2

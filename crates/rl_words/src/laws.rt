@@ -1,0 +1,62 @@
+ghost use Rattle.std.specs.Prelude.{◌≡◌, ◌≢◌, ℕ, ◌+◌, ◌*◌, ◌^◌, ◌<◌, ◌≤◌, Option};
+ghost use Rattle.rl_base.specs.declared.ids.TrainId.{TrainId};
+ghost use Rattle.rl_base.specs.declared.layout.Layout.{Layout};
+ghost use Rattle.rl_words.specs.declared.lock.LockWord.{LockWord};
+ghost use Rattle.rl_words.specs.declared.mail.MailWord.{MailWord};
+ghost use Rattle.rl_words.specs.declared.resv.ResvWord.{ResvWord};
+ghost use Rattle.rl_words.specs.declared.run.RunWord.{RunWord};
+ghost use Rattle.rl_words.specs.declared.sense.SenseWord.{SenseWord};
+ghost use Rattle.rl_words.specs.Fields.{field, with_field};
+ghost use Rattle.rl_words.specs.Lock.{FitsLock, packed_lock};
+ghost use Rattle.rl_words.specs.Mail.{FitsMail, packed_mail};
+ghost use Rattle.rl_words.specs.Owner.{Owns};
+ghost use Rattle.rl_words.specs.Resv.{FitsArm, FitsResv, arm_code, packed_resv, arm_in, with_arm};
+ghost use Rattle.rl_words.specs.Run.{FitsRun, packed_run};
+ghost use Rattle.rl_words.specs.Sense.{FitsSense, packed_sense};
+ghost use Rattle.rl_words.specs.Stamps.{stamp_in, payload_in, stamped};
+
+use rl_base::numberings;
+
+/// Fields of numbers: a field is read where it stands between low and high ones; a field that was written is
+/// read, and every other field is as it was.
+pub fn bit_fields()
+    ensures between { (low v high i n : ℕ) → low < 2 ^ i → v < 2 ^ n → field (low + v * 2 ^ i + high * 2 ^ (i + n)) i n ≡ v }
+    ensures written { (x i n v : ℕ) → v < 2 ^ n → field (with_field x i n v) i n ≡ v }
+    ensures lower { (x i n v j m : ℕ) → j + m ≤ i → field (with_field x i n v) j m ≡ field x j m }
+    ensures higher { (x i n v j m : ℕ) → v < 2 ^ n → i + n ≤ j → field (with_field x i n v) j m ≡ field x j m }
+    ensures same { (x i n : ℕ) → with_field x i n (field x i n) ≡ x }
+{}
+
+/// Two values of a word never share a packing.
+pub fn packings()
+    ensures resv { (v w : ResvWord) → FitsResv v → FitsResv w → packed_resv v ≡ packed_resv w → v ≡ w }
+    ensures lock { (v w : LockWord) → FitsLock v → FitsLock w → packed_lock v ≡ packed_lock w → v ≡ w }
+    ensures mail { (v w : MailWord) → FitsMail v → FitsMail w → packed_mail v ≡ packed_mail w → v ≡ w }
+    ensures run { (v w : RunWord) → FitsRun v → FitsRun w → packed_run v ≡ packed_run w → v ≡ w }
+    ensures sense { (v w : SenseWord) → FitsSense v → FitsSense w → packed_sense v ≡ packed_sense w → v ≡ w }
+{}
+
+/// One arm of a reservation word: its code is a field of the packing, and to change the arm is to write that
+/// field and leaves every other arm as it was.
+pub fn arms()
+    ensures field { (w : ResvWord) (x : ℕ) → FitsResv w → x < 4 → field (packed_resv w) (6 * x) 6 ≡ arm_code (arm_in w x) }
+    ensures written { (w : ResvWord) (x : ℕ) (arm : Option TrainId) → FitsResv w → x < 4 → packed_resv (with_arm w x arm) ≡ with_field (packed_resv w) (6 * x) 6 (arm_code arm) }
+    ensures fits { (w : ResvWord) (x : ℕ) (arm : Option TrainId) → FitsResv w → FitsArm arm → x < 4 → FitsResv (with_arm w x arm) }
+    ensures same { (w : ResvWord) (x : ℕ) (arm : Option TrainId) → x < 4 → arm_in (with_arm w x arm) x ≡ arm }
+    ensures others { (w : ResvWord) (x y : ℕ) (arm : Option TrainId) → x < 4 → y < 4 → y ≢ x → arm_in (with_arm w x arm) y ≡ arm_in w y }
+{}
+
+/// A word is its stamp and its payload.
+pub fn stamps()
+    ensures stamp { (stamp payload : ℕ) → stamp < 2 ^ 32 → payload < 2 ^ 32 → stamp_in (stamped stamp payload) ≡ stamp }
+    ensures payload { (stamp payload : ℕ) → payload < 2 ^ 32 → payload_in (stamped stamp payload) ≡ payload }
+    ensures word { (word : ℕ) → word < 2 ^ 64 → stamped (stamp_in word) (payload_in word) ≡ word }
+{}
+
+/// At each value of a word at most one node may change it.
+pub fn one_owner()
+    ensures { (lay : Layout) (w payload m n : ℕ) → Owns lay w payload m → Owns lay w payload n → m ≡ n }
+{
+    // No two words have one number, for the proof.
+    numberings();
+}
