@@ -19,7 +19,7 @@ use Rattle.rl_tables.specs.declared.table.StepRow.{StepRow}
 use Rattle.rl_tables.specs.declared.table.TrainTable.{TrainTable}
 use Rattle.rl_tables.specs.declared.table.Tables.{Tables}
 use Rattle.rl_tables.specs.Tables.{segment_in, IsBoxTable, IsStepRow, IsTrainTable, AreTablesOf}
-use Rattle.rl_tables.specs.Kept.{kind_of, segment_at, can_join, IsArm, IsBox, IsRow, IsTrain, IsLine}
+use Rattle.rl_tables.specs.Kept.{line_kind, line_segment, can_join, IsArm, IsBox, IsRow, IsTrain, IsLine}
 use Rattle.rl_tables.proofs.ListsOf.{there}
 use Rattle.rl_tables.proofs.Ends.{end_of}
 use Rattle.rl_tables.proofs.Rows.{few_steps, connected, arms_joined, arms_apart}
@@ -57,13 +57,13 @@ is_box n b x network within is =
     }
 
 -- a box has in its table the kind and the segments that it has in the network
-same_kind : (n : NetworkPlan) (tables : Tables) (b : ℕ) → AreTablesOf n tables → b < length n.boxes → kind_of tables b ≡ net.kind_of n b
+same_kind : (n : NetworkPlan) (tables : Tables) (b : ℕ) → AreTablesOf n tables → b < length n.boxes → line_kind tables b ≡ net.kind_of n b
 same_kind n tables b are within =
     let count = are.boxes.length_is in
     let found = there tables.boxes b (omega arith) in
     rw found.1 ((are.boxes.each b found.0 found.1).kind)
 
-same_segment : (n : NetworkPlan) (tables : Tables) (b i : ℕ) → AreTablesOf n tables → b < length n.boxes → segment_at tables b i ≡ net.segment_at n b i
+same_segment : (n : NetworkPlan) (tables : Tables) (b i : ℕ) → AreTablesOf n tables → b < length n.boxes → line_segment tables b i ≡ net.segment_at n b i
 same_segment n tables b i are within =
     let count = are.boxes.length_is in
     let found = there tables.boxes b (omega arith) in

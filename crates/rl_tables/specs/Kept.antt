@@ -12,12 +12,12 @@ use Rattle.rl_tables.specs.declared.table.Tables.{Tables}
 use Rattle.rl_tables.specs.Tables.{segment_in, segment_number}
 
 -- the kind of box b; one that isn't there counts as a buffer, which connects nothing
-abbrev pub kind_of : Tables → ℕ → Kind
-kind_of tables b = option_map_or (λ (x : BoxTable). x.kind) (slice_get tables.boxes b) Buffer
+abbrev pub line_kind : Tables → ℕ → Kind
+line_kind tables b = option_map_or (λ (x : BoxTable). x.kind) (slice_get tables.boxes b) Buffer
 
 -- the segment at arm i of box b
-abbrev pub segment_at : Tables → ℕ → ℕ → Option ℕ
-segment_at tables b i = option_and_then (λ (x : BoxTable). segment_number x i) (slice_get tables.boxes b)
+abbrev pub line_segment : Tables → ℕ → ℕ → Option ℕ
+line_segment tables b i = option_and_then (λ (x : BoxTable). segment_number x i) (slice_get tables.boxes b)
 
 -- some side of a box of the kind connects the two arms
 abbrev pub can_join : Kind → ℕ → ℕ → Bool
@@ -26,8 +26,8 @@ can_join kind x y = arms_join kind x y Left || arms_join kind x y Right
 -- the arm is one of box b, and s is the segment there
 pub record IsArm (tables : Tables) (b arm s : ℕ) : Type 0 where
   pub box : b < length tables.boxes
-  pub among : arm < arms_of (kind_of tables b)
-  pub segment : segment_at tables b arm ≡ Some s
+  pub among : arm < arms_of (line_kind tables b)
+  pub segment : line_segment tables b arm ≡ Some s
 
 -- the box has a segment at each arm that its kind has, and at no other, and stands at left if it is no point
 pub record IsBox (b : ℕ) (x : BoxTable) : Type 0 where
@@ -38,7 +38,7 @@ pub record IsBox (b : ℕ) (x : BoxTable) : Type 0 where
 -- the two segments of a step differ, its box can connect them, and their other ends are at other boxes
 pub record IsRow (tables : Tables) (row : StepRow) : Type 0 where
   pub apart : row.s.0 ≢ row.s2.0
-  pub joined : can_join (kind_of tables row.b.0) row.x.0 row.y.0 ≡ true
+  pub joined : can_join (line_kind tables row.b.0) row.x.0 row.y.0 ≡ true
   pub arms_apart : row.x.0 ≢ row.y.0
   pub near : IsArm tables row.b.0 row.y.0 row.s2.0
   pub far : IsArm tables row.c.0 row.c_arm.0 row.s2.0

@@ -44,7 +44,7 @@ impl Line {
     }
 
     /// The tables of the boxes, in order.
-    pub fn box_tables(&self) -> &[BoxTable]
+    pub(crate) fn box_tables(&self) -> &[BoxTable]
         ensures tables { result.now ≡ self.now.boxes }
         ensures line { IsLine self.now }
     {
@@ -52,7 +52,7 @@ impl Line {
     }
 
     /// The tables of the trains, in order.
-    pub fn train_tables(&self) -> &[TrainTable]
+    pub(crate) fn train_tables(&self) -> &[TrainTable]
         ensures tables { result.now ≡ self.now.trains }
         ensures line { IsLine self.now }
     {

@@ -19,7 +19,7 @@ fn starter(trains: &[TrainTable], s: SegId) -> Option<&TrainTable>
 
 impl Line {
     /// The train that starts on the segment, and so holds it at the start.
-    pub fn holder(&self, s: SegId) -> Option<TrainId>
+    pub(crate) fn holder(&self, s: SegId) -> Option<TrainId>
         ensures train { result ≡ holder_of self.now s.0 }
         ensures there { IfSome result (λ t. t.0 < length self.now.trains) }
         ensures few { FitsArm result }
