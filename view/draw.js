@@ -192,7 +192,7 @@ class Picture {
         const title = make("title", {}, group);
         const parts = ["casing", "bar s", "windows"].map(kind => make("path", { class: kind }, group));
         const head = make("path", { class: "head f" }, group);
-        const mark = make("g", { class: "refusal" }, this.layers.marks);
+        const mark = make("g", { class: "refusal", "data-train": name }, this.layers.marks);
         return { group, title, parts, head, mark };
     }
 
@@ -263,6 +263,7 @@ class Picture {
         }
         const lock = play.lock(number);
         box.ring.replaceChildren();
+        box.ring.setAttribute("class", "lock");
         box.group.setAttribute("data-lock", lock.train === NONE ? "*" : net.trains[lock.train].name);
         if (lock.train !== NONE) {
             const [from, to] = [lock.from, lock.to].map(segment => arms.indexOf(segment));
@@ -341,7 +342,6 @@ class Picture {
             for (const kind of ["casing", "line"]) {
                 make("path", { d: `M${round(x - 5)} ${round(y - 5)}l10 10m0 -10l-10 10`, class: kind }, cross);
             }
-            train.mark.setAttribute("data-train", net.trains[number].name);
             says += `; ${tell(net, move)}`;
         }
         train.title.textContent = `${net.trains[number].name}: ${says}`;

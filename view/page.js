@@ -27,6 +27,7 @@ function start() {
 
 function showFault(sentence) {
     document.querySelector("main").remove();
+    byId("zoom").remove();
     const told = document.createElement("p");
     told.className = "fault";
     told.id = "fault";
@@ -137,7 +138,7 @@ class Page {
         const list = byId("list");
         byId("rows").style.height = LINE * (this.play.length + 1) + "px";
         list.addEventListener("scroll", () => this.fillList());
-        new ResizeObserver(() => this.fillList()).observe(list);
+        new ResizeObserver(() => requestAnimationFrame(() => this.fillList())).observe(list);
         byId("rows").addEventListener("click", event => {
             const row = event.target.closest("[data-move]");
             if (row) this.show(Number(row.dataset.move), false);
@@ -332,18 +333,17 @@ class Page {
 
     // Writes the move into the address, not too often, as browsers count how often it changes.
     note() {
-        if (this.noting) return;
         const write = () => {
             this.noting = 0;
             if (this.wanted() === this.play.at && location.hash) return;
-            try {
-                history.replaceState(null, "", "#move=" + this.play.at);
-            } catch {
-                location.hash = "#move=" + this.play.at;
-            }
+            history.replaceState(null, "", "#move=" + this.play.at);
         };
-        if (this.playing) this.noting = setTimeout(write, 400);
-        else write();
+        if (this.playing) {
+            this.noting = this.noting || setTimeout(write, 400);
+            return;
+        }
+        clearTimeout(this.noting);
+        write();
     }
 
     // The picture as it stands, with the colours in its own text.
@@ -379,7 +379,7 @@ class View {
         this.moved = false;
         this.fingers = new Map();
         this.fit();
-        new ResizeObserver(() => this.resized()).observe(svg);
+        new ResizeObserver(() => requestAnimationFrame(() => this.resized())).observe(svg);
         svg.addEventListener("wheel", event => {
             const fits = !this.moved && this.scale() <= this.fitting() * 1.001;
             if (event.ctrlKey || !fits) this.wheel(event);
@@ -550,7 +550,9 @@ function addLegend(list) {
     }
 }
 
-addEventListener("error", event => {
-    if (!byId("fault")) showFault("The page failed: " + event.message);
-});
-start();
+try {
+    start();
+} catch (error) {
+    showFault("The page failed: " + error.message);
+    throw error;
+}
