@@ -32,7 +32,7 @@ function showFault(sentence) {
     told.className = "fault";
     told.id = "fault";
     told.setAttribute("role", "alert");
-    told.textContent = "This can't be drawn. " + sentence;
+    told.textContent = "This can't be drawn: " + sentence;
     byId("summary").replaceChildren();
     document.querySelector("header").after(told);
 }
@@ -279,7 +279,8 @@ class Page {
         document.documentElement.dataset.move = at;
         this.scrollList();
         if (this.followed !== NONE) this.view.keep(this.placeOfTrain(this.followed));
-        else if (move && !this.playing) this.view.keep(this.placeOf(move));
+        else if (!this.playing && move) this.view.keep(this.placeOf(move));
+        else if (!this.playing && this.rows.length) this.view.keep(this.placeOfTrain(0));
         this.note();
         if (glides && !this.still.matches && ["enter", "leave"].includes(move.verb)) this.glide(move);
     }
@@ -350,8 +351,7 @@ class Page {
     drawing() {
         const svg = byId("picture").cloneNode(true);
         const { x, y, width, height } = this.picture.bounds;
-        svg.removeAttribute("id");
-        svg.removeAttribute("aria-labelledby");
+        for (const name of ["id", "style", "aria-labelledby"]) svg.removeAttribute(name);
         svg.setAttribute("viewBox", [x, y, width, height].map(round).join(" "));
         svg.setAttribute("width", round(width));
         svg.setAttribute("height", round(height));
@@ -423,7 +423,7 @@ class View {
         const most = Math.max(240, Math.min(innerHeight * 0.62, 900));
         const readable = wide < 700 ? 0.7 : 0.4;
         const scale = Math.max(Math.min(wide / this.bounds.width, 1.6), readable);
-        this.svg.style.height = Math.max(170, Math.min(most, this.bounds.height * scale)) + "px";
+        this.svg.style.height = Math.max(150, Math.min(most, this.bounds.height * scale)) + "px";
         this.set(0, 0, wide / Math.max(Math.min(this.fitting(), 1.6), readable));
         this.centre(true);
     }

@@ -355,7 +355,7 @@ async function testFaults() {
                 says: document.querySelector("#fault")?.textContent, main: document.querySelectorAll("main, #picture").length,
                 buttons: [...document.querySelectorAll("button")].filter(button => button.offsetParent).length,
             }));
-            assert.deepEqual(shown, { says: "This can't be drawn. " + sentence, main: 0, buttons: 0 });
+            assert.deepEqual(shown, { says: "This can't be drawn: " + sentence, main: 0, buttons: 0 });
         });
     }
 }
