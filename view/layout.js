@@ -239,13 +239,16 @@ class Graph {
         this.setColumns();
     }
 
-    // Columns by the longest way from the west; then what has more tracks to the east moves up to them.
+    // Columns by the longest way from the west; then what has more tracks to the east moves up to them. Where there are
+    // turns the boxes take every other column, so that a turn has room inside a fork.
     setRanks() {
+        this.step = this.nodes.some(node => node.kind === "turn") ? 2 : 1;
+        const long = piece => piece.a.kind === "turn" || piece.b.kind === "turn" ? 1 : this.step;
         const waiting = new Map(this.nodes.map(node => [node, node.west.length]));
         const sorted = this.nodes.filter(node => node.west.length === 0);
         for (const node of sorted) {
             for (const piece of node.east) {
-                piece.b.rank = Math.max(piece.b.rank, node.rank + 1);
+                piece.b.rank = Math.max(piece.b.rank, node.rank + long(piece));
                 waiting.set(piece.b, waiting.get(piece.b) - 1);
                 if (waiting.get(piece.b) === 0) sorted.push(piece.b);
             }
@@ -253,7 +256,7 @@ class Graph {
         for (let again = 0; again < 2; again++) {
             for (const node of [...sorted].reverse()) {
                 if (node.east.length > node.west.length) {
-                    node.rank = Math.min(...node.east.map(piece => piece.b.rank)) - 1;
+                    node.rank = Math.min(...node.east.map(piece => piece.b.rank - long(piece)));
                 }
             }
         }
@@ -500,17 +503,22 @@ class Graph {
         }
     }
 
+    isBend(node) {
+        return node.kind === "turn" || node.kind === "edge";
+    }
+
+    // How far a piece leans at its node.
+    leanAt(piece, node) {
+        return leanOf((node === piece.a ? piece.inner[0] : piece.inner[piece.inner.length - 1]).y - node.y);
+    }
+
     // What a piece takes beside its node before its clear stretch begins.
     pad(piece, node) {
-        const inner = node === piece.a ? piece.inner[0] : piece.inner[piece.inner.length - 1];
-        if (!node.kind || node.kind === "turn" || node.kind === "edge") return 14;
-        const lean = leanOf(inner.y - node.y);
+        if (this.isBend(node)) return 14;
+        const lean = this.leanAt(piece, node);
         if (lean) return lean + 10;
         const side = node === piece.a ? node.east : node.west;
-        const forked = side.some(other => {
-            const first = node === other.a ? other.inner[0] : other.inner[other.inner.length - 1];
-            return first.y !== node.y;
-        });
+        const forked = side.some(other => this.leanAt(other, node) > 0);
         return Math.max(22, this.room.box(node.box) / 2 + 8, forked ? 60 : 0);
     }
 
@@ -518,8 +526,13 @@ class Graph {
         const columns = Math.max(...this.nodes.map(node => node.rank)) + 1;
         this.x = [0];
         for (let rank = 1; rank < columns; rank++) {
-            this.x[rank] = this.x[rank - 1] + 40;
+            this.x[rank] = this.x[rank - 1] + 40 / this.step;
             for (const piece of this.pieces) {
+                const leans = [[piece.a, piece.a.rank + 1], [piece.b, piece.b.rank]];
+                for (const [node, column] of leans) {
+                    if (column !== rank || this.isBend(node)) continue;
+                    this.x[rank] = Math.max(this.x[rank], this.x[rank - 1] + this.leanAt(piece, node) + 10);
+                }
                 if (piece.b.rank !== rank) continue;
                 let bends = 0;
                 piece.inner.forEach((node, i) => { if (i) bends += leanOf(node.y - piece.inner[i - 1].y); });
@@ -535,10 +548,9 @@ class Graph {
     // The points of a piece from west to east, and its clear stretch.
     trace(piece) {
         const { a, b, inner } = piece;
-        const isBend = node => node.kind === "turn" || node.kind === "edge";
         let y = inner[0].y;
-        const points = isBend(a) ? [[a.x, y]] : [[a.x, a.y]];
-        if (!isBend(a) && y !== a.y) points.push([a.x + leanOf(y - a.y), y]);
+        const points = this.isBend(a) ? [[a.x, y]] : [[a.x, a.y]];
+        if (!this.isBend(a) && y !== a.y) points.push([a.x + leanOf(y - a.y), y]);
         const flats = [[a.x + this.pad(piece, a), 0, y]];
         inner.forEach((node, i) => {
             if (node.y === y) return;
@@ -550,8 +562,8 @@ class Graph {
             y = node.y;
         });
         flats[flats.length - 1][1] = b.x - this.pad(piece, b);
-        if (!isBend(b) && y !== b.y) points.push([b.x - leanOf(y - b.y), y]);
-        points.push(isBend(b) ? [b.x, y] : [b.x, b.y]);
+        if (!this.isBend(b) && y !== b.y) points.push([b.x - leanOf(y - b.y), y]);
+        points.push(this.isBend(b) ? [b.x, y] : [b.x, b.y]);
         const [x0, x1, row] = flats.sort((f, g) => (g[1] - g[0]) - (f[1] - f[0]))[0];
         return { points: points.map(([px, py]) => [px, py * ROW]), clear: { x0, x1, y: row * ROW } };
     }
@@ -567,7 +579,7 @@ function leanOf(rows) {
 function foldsOf(plain, runs) {
     const wraps = runs.filter(run => run.wrap);
     const height = (plain.height + 1.6) * ROW;
-    if (plain.x.length < 11 || plain.width < 1500 || plain.width < 4 * height || wraps.length > 1) return null;
+    if (plain.x.length < 11 * plain.step || plain.width < 1500 || plain.width < 4 * height || wraps.length > 1) return null;
     const spans = runs.filter(run => !run.wrap).flatMap(run => run.pieces.map(([piece]) => ({ run, piece })));
     const cuts = [];
     for (let rank = 0; rank + 1 < plain.x.length; rank++) {

@@ -104,6 +104,61 @@ function drawnParts() {
     };
 }
 
+// What of the picture isn't where, or in the colour, that its state says: trains on their segments, coloured ends at
+// their boxes and in the colour of the holder, blades toward the branch.
+function misdrawn(arms) {
+    const all = selector => [...document.querySelectorAll("#picture " + selector)];
+    const points = path => {
+        const length = path.getTotalLength();
+        return Array.from({ length: 201 }, (_, i) => path.getPointAtLength(length * i / 200));
+    };
+    const way = {};
+    for (const segment of all(".segment")) way[segment.dataset.segment] = points(segment.querySelector(".reach"));
+    const near = (p, others) => Math.min(...others.map(q => Math.hypot(p.x - q.x, p.y - q.y)));
+    const colour = {};
+    for (const row of document.querySelectorAll("#trains tbody tr")) {
+        colour[row.dataset.train] = getComputedStyle(row.querySelector(".chip")).backgroundColor;
+    }
+    const centre = {};
+    for (const box of all(".boxes > g")) {
+        const circle = box.querySelector(".reach");
+        centre[box.dataset.box] = { x: circle.cx.baseVal.value, y: circle.cy.baseVal.value };
+    }
+    const found = [];
+    for (const train of all(".trains > g")) {
+        const on = train.dataset.on.split(" ").flatMap(segment => way[segment]);
+        const bar = train.querySelector(".bar");
+        if (points(bar).some(p => near(p, on) > 6)) found.push(`${train.dataset.train} isn't on ${train.dataset.on}`);
+        if (getComputedStyle(bar).stroke !== colour[train.dataset.train]) found.push(`${train.dataset.train}'s colour`);
+        for (const segment of train.dataset.on.split(" ")) {
+            if (!points(bar).some(p => near(p, way[segment]) < 1)) found.push(`${train.dataset.train} isn't on ${segment}`);
+        }
+    }
+    const shown = all(".holds > g").filter(hold => getComputedStyle(hold).display !== "none").map(hold => {
+        const path = hold.querySelector(".colour");
+        const [first, last] = [path.getPointAtLength(0), path.getPointAtLength(path.getTotalLength())];
+        return { segment: hold.dataset.segment, ends: [first, last], colour: getComputedStyle(path).stroke };
+    });
+    for (const { dataset: { segment, box, train } } of all(".holds [data-box]")) {
+        const here = shown.filter(hold => hold.segment === segment && near(centre[box], hold.ends) < 20);
+        const wanted = train === "*" ? [] : [colour[train]];
+        if (String(here.map(hold => hold.colour)) !== String(wanted)) found.push(`${segment} at ${box} isn't ${train}'s`);
+    }
+    for (const box of all(".boxes > .point")) {
+        const blade = box.querySelector(".blade");
+        const tip = blade.getPointAtLength(blade.getTotalLength());
+        const [left, right] = [1, 2].map(arm => near(tip, way[arms[box.dataset.box][arm]]));
+        const side = left < 2 && right > 5 ? "left" : right < 2 && left > 5 ? "right" : "moving";
+        if (side !== box.dataset.points) found.push(`the blade of ${box.dataset.box} is ${side}`);
+    }
+    for (const box of all(".boxes > g")) {
+        const ring = box.querySelector(".ring");
+        const wanted = box.dataset.lock === "*" ? undefined : colour[box.dataset.lock];
+        if ((ring && getComputedStyle(ring).stroke) !== (wanted || null)) found.push(`the ring of ${box.dataset.box}`);
+    }
+    return found;
+}
+
 // Goes through some moves, and answers the pairs of labels of which one lies over the other.
 function overlaps(step) {
     const slider = document.getElementById("slider");
@@ -157,11 +212,14 @@ async function testNetwork(name) {
     });
     await test(`${name}: the first, a middle and the last state are those of the report`, async () => {
         const middle = Math.floor(moves / 2);
+        const arms = {};
+        for (const box in tables.boxes) arms[box] = tables.boxes[box].arms.map(([segment]) => segment);
         await browser.visit(page(name), "#move=" + middle);
-        for (const move of [middle, 0, Math.max(0, moves - 1), moves]) {
+        for (const move of new Set([middle, 0, Math.min(7, moves), Math.floor(moves / 3), Math.max(0, moves - 1), moves])) {
             await browser.run(goTo, move);
             assert.equal(await browser.run(at), move);
             assert.deepEqual(await browser.run(drawnWorld), worldAfter(tables, report, move), `after ${move} moves`);
+            assert.deepEqual(await browser.run(misdrawn, arms), [], `after ${move} moves`);
         }
         for (const [, train, fate] of report.split("\n").map(line => line.split(" ")).filter(([word]) => word === "train")) {
             const said = await browser.run(train => document.querySelector(`tr[data-train="${train}"]`).cells[1].textContent, train);
