@@ -110,7 +110,7 @@ function misdrawn(arms) {
     const all = selector => [...document.querySelectorAll("#picture " + selector)];
     const points = path => {
         const length = path.getTotalLength();
-        return Array.from({ length: 201 }, (_, i) => path.getPointAtLength(length * i / 200));
+        return Array.from({ length: 121 }, (_, i) => path.getPointAtLength(length * i / 120));
     };
     const way = {};
     for (const segment of all(".segment")) way[segment.dataset.segment] = points(segment.querySelector(".reach"));
@@ -130,6 +130,9 @@ function misdrawn(arms) {
         const bar = train.querySelector(".bar");
         if (points(bar).some(p => near(p, on) > 6)) found.push(`${train.dataset.train} isn't on ${train.dataset.on}`);
         if (getComputedStyle(bar).stroke !== colour[train.dataset.train]) found.push(`${train.dataset.train}'s colour`);
+        const across = train.dataset.on.includes(" ");
+        const atBox = points(bar).some(p => near(p, Object.values(centre)) < (across ? 6 : 10));
+        if (atBox !== across) found.push(`${train.dataset.train} is ${atBox ? "" : "not "}at a box`);
         for (const segment of train.dataset.on.split(" ")) {
             if (!points(bar).some(p => near(p, way[segment]) < 1)) found.push(`${train.dataset.train} isn't on ${segment}`);
         }
@@ -215,7 +218,7 @@ async function testNetwork(name) {
         const arms = {};
         for (const box in tables.boxes) arms[box] = tables.boxes[box].arms.map(([segment]) => segment);
         await browser.visit(page(name), "#move=" + middle);
-        for (const move of new Set([middle, 0, Math.min(7, moves), Math.floor(moves / 3), Math.max(0, moves - 1), moves])) {
+        for (const move of new Set([middle, 0, Math.min(7, moves), moves])) {
             await browser.run(goTo, move);
             assert.equal(await browser.run(at), move);
             assert.deepEqual(await browser.run(drawnWorld), worldAfter(tables, report, move), `after ${move} moves`);
@@ -238,7 +241,7 @@ async function testNetwork(name) {
 
 async function testWays(name) {
     await test("the state doesn't depend on the way to it", async () => {
-        await browser.visit(page(name), "#move=40");
+        await browser.visit(page(name), "#move=20");
         const linked = await browser.run(picture);
         const same = async () => {
             const now = await browser.run(picture);
@@ -247,7 +250,7 @@ async function testWays(name) {
         };
         await browser.key("End");
         await browser.key("Home");
-        for (let i = 0; i < 40; i++) await browser.key("ArrowRight");
+        for (let i = 0; i < 20; i++) await browser.key("ArrowRight");
         await browser.run(wait, 400);
         await same();
         for (let i = 0; i < 3; i++) await browser.key("ArrowRight");
@@ -307,9 +310,7 @@ async function testWays(name) {
     });
     await test("every line of the list is that of the report", async () => {
         const lines = read("pages", name + ".report").split("\n").slice(2);
-        for (let move = 1; move <= 60; move++) {
-            await browser.key("ArrowRight");
-        }
+        for (let i = 0; i < 12; i++) await browser.key("ArrowRight");
         const rows = await browser.run(() => [...document.querySelectorAll("#rows [data-move]")]
             .map(row => [Number(row.dataset.move), row.lastChild.textContent]));
         for (const [move, line] of rows) assert.equal(line, move ? lines[move - 1] : "the start");
@@ -404,10 +405,24 @@ async function testWrong() {
     });
 }
 
+// The sentence of each damaged text; some of the pages are opened, and of the others only the texts are read.
 async function testFaults() {
-    for (const fault of listed("faults", ".html")) {
+    for (const [i, fault] of listed("faults", ".html").entries()) {
         const sentence = read("faults", fault + ".txt").trimEnd();
+        const html = read("faults", fault + ".html");
         await test("the page says: " + sentence, async () => {
+            if (i % 9 && !/script|100000/.test(sentence)) {
+                const [tables, report] = ["tables", "report"].map(id => html.split(`id="${id}">`)[1].split("</script>")[0]);
+                const says = await browser.run((tables, report) => {
+                    try {
+                        readReport(report, readTables(tables));
+                    } catch (fault) {
+                        return fault.message;
+                    }
+                }, tables, report);
+                assert.equal(says, sentence);
+                return;
+            }
             await browser.visit(path.join(folder, "faults", fault + ".html"));
             const shown = await browser.run(() => ({
                 says: document.querySelector("#fault")?.textContent, main: document.querySelectorAll("main, #picture").length,
