@@ -65,7 +65,9 @@ function tables() {
     while (!ended && word[1] == "box") read_box()
     for (s = 0; s < segments; s++) if (ends[s] < 2) fail("another arm with segment " segment_name[s])
     while (!ended && word[1] == "train") read_train()
-    if (line != "end") fail((trains ? "" : "\"box " boxes " NAME KIND SIDE\", ") "\"train " trains " NAME STEPS\" or \"end\"")
+    if (line != "end") {
+        fail((trains ? "" : "\"box " boxes " NAME KIND SIDE\", ") "\"train " trains " NAME STEPS\" or \"end\"")
+    }
     for (i = 0; i < holders; i++) {
         if (!(holder[i] in train)) fail("* or a train of these tables in place of " holder[i], holder_line[i])
     }

@@ -24,9 +24,7 @@ function pathOf(points) {
 }
 
 function lengthOf(points) {
-    let sum = 0;
-    for (let i = 1; i < points.length; i++) sum += Math.hypot(points[i][0] - points[i - 1][0], points[i][1] - points[i - 1][1]);
-    return sum;
+    return points.slice(1).reduce((sum, [x, y], i) => sum + Math.hypot(x - points[i][0], y - points[i][1]), 0);
 }
 
 // The part of a way between two lengths from its beginning.
@@ -120,7 +118,7 @@ class Picture {
         const length = lengthOf(way);
         const trim = ends.map(end => this.net.boxes[end.box].kind === "point" && end.arm > 0 ? TRIM : 0);
         const middle = (clear.x0 + clear.x1) / 2;
-        make("text", { x: round(middle), y: clear.y + 20, class: "name", "data-segment": name }, this.layers.labels, name);
+        make("text", { x: round(middle), y: clear.y + 20, class: "name" }, this.layers.labels, name);
         return { way, clear, length, trim, middle, centre: lengthAt(way, middle, clear.y) };
     }
 
@@ -200,8 +198,9 @@ class Picture {
     addTag(parent, train, anchor, x, y, kind) {
         const width = this.tagWidth[train];
         const left = anchor === "start" ? x : anchor === "end" ? x - width : x - width / 2;
-        const tag = make("g", { class: `tag ${kind} ${colourOf(train)}`, "data-train": this.net.trains[train].name }, parent);
-        make("rect", { x: round(left), y: y - 27, width, height: 15, rx: kind === "here" ? 4 : 7.5, class: "f s" }, tag);
+        const tag = make("g", { class: `tag ${kind} ${colourOf(train)}` }, parent);
+        const rx = kind === "here" ? 4 : 7.5;
+        make("rect", { x: round(left), y: y - 27, width, height: 15, rx, class: "f s" }, tag);
         make("text", { x: round(left + width / 2), y: y - 15.5 }, tag, this.net.trains[train].name);
     }
 
@@ -222,22 +221,29 @@ class Picture {
             const [p] = end === 0 ? segment.way : [segment.way[segment.way.length - 1]];
             return Math.abs(p[0] - clear.x0) < Math.abs(p[0] - clear.x1) ? ["start", clear.x0] : ["end", clear.x1];
         };
-        const here = net.trains.map((_, t) => t).filter(t => play.train(t).on === number);
-        for (const train of here) {
+        const here = this.trainsOn(number);
+        here.forEach((train, i) => {
             const { across } = play.train(train);
-            if (across === NONE) this.addTag(segment.tags, train, "middle", middle, clear.y, "here");
-            else this.addTag(segment.tags, train, ...near(this.endAt(number, across)), clear.y, "here");
-        }
+            const place = across === NONE ? ["middle", middle] : near(this.endAt(number, across));
+            this.addTag(segment.tags, train, ...place, clear.y - 16 * i, "here");
+        });
         const free = holders.map(holder => holder !== NONE && !here.includes(holder));
         if (whole && free[0]) this.addTag(segment.tags, holders[0], "middle", middle, clear.y, "held");
         else {
-            free.forEach((is, end) => { if (is) this.addTag(segment.tags, holders[end], ...near(end), clear.y, "held"); });
+            free.forEach((is, end) => {
+                if (is) this.addTag(segment.tags, holders[end], ...near(end), clear.y, "held");
+            });
         }
         const says = end => {
             const box = net.boxes[net.segments[number].ends[end].box].name;
             return holders[end] === NONE ? `free at ${box}` : `held at ${box} by ${net.trains[holders[end]].name}`;
         };
         segment.title.textContent = `${net.segments[number].name}: ${says(0)}, ${says(1)}`;
+    }
+
+    // The trains that stand on a segment, or come from it. Of a right report that is one at most.
+    trainsOn(segment) {
+        return this.net.trains.map((_, number) => number).filter(number => this.play.train(number).on === segment);
     }
 
     endAt(segment, box) {
@@ -283,8 +289,8 @@ class Picture {
     }
 
     arrow([x, y], [dx, dy], length, half) {
-        const back = [x - dx * length, y - dy * length];
-        return pathOf([[x, y], [back[0] - dy * half, back[1] + dx * half], [back[0] + dy * half, back[1] - dx * half]]) + "Z";
+        const [bx, by] = [x - dx * length, y - dy * length];
+        return pathOf([[x, y], [bx - dy * half, by + dx * half], [bx + dy * half, by - dx * half]]) + "Z";
     }
 
     // The way on which a train is drawn, and from where to where on it; `headed` where it has a direction.
@@ -306,7 +312,9 @@ class Picture {
         if (next && next.from === on) way = toward(on, next.box);
         else if (last && last.to === on) way = [...toward(on, last.box)].reverse();
         else headed = false;
-        const centre = way === segment.way ? segment.centre : segment.length - segment.centre;
+        const others = this.trainsOn(on);
+        const aside = (others.indexOf(number) - (others.length - 1) / 2) * 24;
+        const centre = (way === segment.way ? segment.centre : segment.length - segment.centre) + aside;
         return { way, from: centre - BAR / 2, to: centre + BAR / 2, headed };
     }
 
@@ -385,6 +393,7 @@ class Picture {
                 if (ahead !== NONE) segments.add(ahead);
             }
         }
+        net.trains.forEach((_, train) => { if (segments.has(play.train(train).on)) trains.add(train); });
         segments.forEach(segment => this.showSegment(segment));
         boxes.forEach(box => this.showBox(box));
         trains.forEach(train => this.showTrain(train));

@@ -1,9 +1,9 @@
 "use strict";
-// Lays a network out as a track schematic. Every segment gets a way to run: at a box the arms that can be connected face
-// opposite sides, west and east, as far as the network allows. Then the boxes get columns from west to east, the
-// tracks between them rows, and the rows stay straight where a route is straight. Where a way can't run from west to
-// east alone, as in a ring or a turning loop, it goes round a turn: a place in the drawing with two tracks on one side.
-// A long row of stations is folded into several, each joined to the next at its end.
+// Lays a network out as a track schematic. At a box the arms that can be connected face opposite sides, west and east,
+// and each segment runs from west to east, as far as the network allows. Then the boxes get columns from west to east,
+// the tracks between them rows, and the rows stay straight where a route is straight. Where a way can't run from west
+// to east alone, as in a ring or a turning loop, it goes round a turn: a place in the drawing with two tracks on one
+// side. A long row of stations is folded into several, each joined to the next at its end.
 
 const ROW = 72;         // from one row to the next
 const TURN = 22;        // what a turn stands out by
@@ -298,8 +298,8 @@ class Graph {
         b.links.push(link);
     }
 
-    // Orders each layer so that few tracks cross. At first all left branches lie on the left as seen from the stem; then
-    // all of them above; where tracks still cross, single boxes are turned over. The first order with the fewest stays.
+    // Orders each layer so that few tracks cross. At first all left branches lie on the left as seen from the stem;
+    // then all of them above; where tracks still cross, single boxes are turned over. The first with the fewest stays.
     setOrder() {
         const small = this.links.length < 1500;
         let best = null;
@@ -410,7 +410,7 @@ class Graph {
         const all = [...this.layers.flat()];
         const shift = (node, port) => node.kind === "crossing" ? this.offset(node, port) : 0;
         const wanted = this.links.filter(l => this.isStraight(l.a, l.pa) && this.isStraight(l.b, l.pb));
-        const weight = l => (l.a.isBox ? 0 : 1) + (l.b.isBox ? 0 : 1) - (l.a.kind === "crossing" || l.b.kind === "crossing");
+        const weight = l => [l.a, l.b].reduce((sum, node) => sum + !node.isBox - (node.kind === "crossing"), 0);
         wanted.sort((l, m) => weight(m) - weight(l));
         const join = links => {
             all.forEach(node => { node.block = { nodes: [node] }; node.off = 0; });
@@ -579,7 +579,8 @@ function leanOf(rows) {
 function foldsOf(plain, runs) {
     const wraps = runs.filter(run => run.wrap);
     const height = (plain.height + 1.6) * ROW;
-    if (plain.x.length < 11 * plain.step || plain.width < 1500 || plain.width < 4 * height || wraps.length > 1) return null;
+    const isLong = plain.x.length >= 11 * plain.step && plain.width >= 1500 && plain.width >= 4 * height;
+    if (!isLong || wraps.length > 1) return null;
     const spans = runs.filter(run => !run.wrap).flatMap(run => run.pieces.map(([piece]) => ({ run, piece })));
     const cuts = [];
     for (let rank = 0; rank + 1 < plain.x.length; rank++) {

@@ -115,7 +115,8 @@ class Page {
         const { fate } = run.outcomes[number];
         const { steps } = net.trains[number];
         const ended = play.at === play.length;
-        if (ended && fate !== "underway") return fate + (fate === "spent" && wait !== NONE ? ": " + this.why(wait) : "");
+        if (ended && fate === "spent" && wait !== NONE) return "spent: " + this.why(wait);
+        if (ended && fate !== "underway") return fate;
         if (wait !== NONE) return (ended ? "underway, waits: " : "waits: ") + this.why(wait);
         if (ended) return fate;
         const step = steps[made];
@@ -161,7 +162,8 @@ class Page {
             row.setAttribute("aria-setsize", this.play.length + 1);
             const move = this.run.moves[at - 1];
             const line = at ? lineOf(this.net, move) : "the start";
-            row.append(element("span", String(at), "number"), element("span", line, at && move.by !== NONE ? "no" : ""));
+            const refused = at > 0 && move.by !== NONE;
+            row.append(element("span", String(at), "number"), element("span", line, refused ? "no" : ""));
             rows.push(row);
         }
         byId("rows").replaceChildren(...rows);
@@ -304,11 +306,10 @@ class Page {
         this.play.go(this.play.at - 1);
         const from = this.picture.placeOf(move.train);
         this.play.go(this.play.at + 1);
-        const across = move.verb === "enter" ? to : from, alone = move.verb === "enter" ? from : to;
-        const length = lengthOf(across.way), own = lengthOf(alone.way);
-        const mid = (alone.from + alone.to) / 2;
-        const onWay = move.verb === "enter" ? mid : length - own + (alone.headed && this.sameEnd(across, alone) ? mid : own - mid);
-        const rest = { from: onWay - BAR / 2, to: onWay + BAR / 2 };
+        const [across, alone] = move.verb === "enter" ? [to, from] : [from, to];
+        const [middle] = cut(alone.way, (alone.from + alone.to) / 2, (alone.from + alone.to) / 2);
+        const at = lengthAt(across.way, ...middle);
+        const rest = { from: at - BAR / 2, to: at + BAR / 2 };
         const [a, b] = move.verb === "enter" ? [rest, across] : [across, rest];
         const took = 240;
         const begun = performance.now();
@@ -325,11 +326,6 @@ class Page {
         };
         draw(0);
         this.gliding = requestAnimationFrame(frame);
-    }
-
-    sameEnd(across, alone) {
-        const [p, q] = [across.way[across.way.length - 1], alone.way[alone.way.length - 1]];
-        return p[0] === q[0] && p[1] === q[1];
     }
 
     // Writes the move into the address, not too often, as browsers count how often it changes.

@@ -58,7 +58,8 @@ class Browser {
     }
 
     async size(width, height, scale = 1) {
-        await this.send("Emulation.setDeviceMetricsOverride", { width, height, deviceScaleFactor: scale, mobile: false });
+        const sizes = { width, height, deviceScaleFactor: scale, mobile: false };
+        await this.send("Emulation.setDeviceMetricsOverride", sizes);
     }
 
     async media(features) {
@@ -70,9 +71,8 @@ class Browser {
         await this.send("Page.navigate", { url: "about:blank" });
         this.events = [];
         await this.send("Page.navigate", { url: "file://" + file + hash });
-        while (await this.run(() => document.readyState) !== "complete" || await this.run(() => location.href) === "about:blank") {
-            await new Promise(resolve => setTimeout(resolve, 10));
-        }
+        const isThere = () => document.readyState === "complete" && location.href !== "about:blank";
+        while (!await this.run(isThere)) await new Promise(resolve => setTimeout(resolve, 10));
     }
 
     // What a function answers in the page.
@@ -95,11 +95,6 @@ class Browser {
         for (const type of ["mousePressed", "mouseReleased"]) {
             await this.send("Input.dispatchMouseEvent", { type, x, y, button: "left", clickCount: 1 });
         }
-    }
-
-    async shot(file, clip) {
-        const { data } = await this.send("Page.captureScreenshot", { format: "png", clip, captureBeyondViewport: Boolean(clip) });
-        fs.writeFileSync(file, Buffer.from(data, "base64"));
     }
 
     async close() {

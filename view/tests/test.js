@@ -83,7 +83,9 @@ function drawnWorld() {
         world.locks[dataset.box] = dataset.lock;
         if (dataset.points) world.points[dataset.box] = dataset.points;
     }
-    for (const { dataset } of document.querySelectorAll("#picture .trains > g")) world.trains[dataset.train] = dataset.on;
+    for (const { dataset } of document.querySelectorAll("#picture .trains > g")) {
+        world.trains[dataset.train] = dataset.on;
+    }
     for (const row of document.querySelectorAll("#trains tbody tr")) {
         world.made[row.dataset.train] = parseInt(row.cells[3].textContent, 10);
         world.refused[row.dataset.train] = Number(row.cells[4].textContent);
@@ -92,12 +94,13 @@ function drawnWorld() {
 }
 
 function drawnParts() {
-    const names = selector => [...document.querySelectorAll("#picture " + selector)].map(text => text.textContent).sort();
-    const count = selector => document.querySelectorAll("#picture " + selector).length;
+    const all = selector => [...document.querySelectorAll("#picture " + selector)];
+    const names = selector => all(selector).map(text => text.textContent).sort();
+    const count = selector => all(selector).length;
     const kinds = ["buffer", "joint", "point", "crossing"].map(kind => [kind, count(".boxes > ." + kind)]);
     return {
         segments: names(".labels .name"), boxes: names(".labels .box-name"), rails: count(".rails > .segment"),
-        trains: [...document.querySelectorAll("#picture .trains > g")].map(train => train.dataset.train).sort(),
+        trains: all(".trains > g").map(train => train.dataset.train).sort(),
         ends: count(".holds [data-box]"), kinds: Object.fromEntries(kinds),
         rows: document.querySelectorAll("#trains tbody tr").length,
         moves: Number(document.querySelector("#rows [aria-setsize]").getAttribute("aria-setsize")) - 1,
@@ -134,7 +137,8 @@ function misdrawn(arms) {
         const atBox = points(bar).some(p => near(p, Object.values(centre)) < (across ? 6 : 10));
         if (atBox !== across) found.push(`${train.dataset.train} is ${atBox ? "" : "not "}at a box`);
         for (const segment of train.dataset.on.split(" ")) {
-            if (!points(bar).some(p => near(p, way[segment]) < 1)) found.push(`${train.dataset.train} isn't on ${segment}`);
+            const touches = points(bar).some(p => near(p, way[segment]) < 1);
+            if (!touches) found.push(`${train.dataset.train} isn't on ${segment}`);
         }
     }
     const shown = all(".holds > g").filter(hold => getComputedStyle(hold).display !== "none").map(hold => {
@@ -145,7 +149,8 @@ function misdrawn(arms) {
     for (const { dataset: { segment, box, train } } of all(".holds [data-box]")) {
         const here = shown.filter(hold => hold.segment === segment && near(centre[box], hold.ends) < 20);
         const wanted = train === "*" ? [] : [colour[train]];
-        if (String(here.map(hold => hold.colour)) !== String(wanted)) found.push(`${segment} at ${box} isn't ${train}'s`);
+        const isRight = String(here.map(hold => hold.colour)) === String(wanted);
+        if (!isRight) found.push(`${segment} at ${box} isn't ${train}'s`);
     }
     for (const box of all(".boxes > .point")) {
         const blade = box.querySelector(".blade");
@@ -224,8 +229,10 @@ async function testNetwork(name) {
             assert.deepEqual(await browser.run(drawnWorld), worldAfter(tables, report, move), `after ${move} moves`);
             assert.deepEqual(await browser.run(misdrawn, arms), [], `after ${move} moves`);
         }
-        for (const [, train, fate] of report.split("\n").map(line => line.split(" ")).filter(([word]) => word === "train")) {
-            const said = await browser.run(train => document.querySelector(`tr[data-train="${train}"]`).cells[1].textContent, train);
+        const now = train => document.querySelector(`tr[data-train="${train}"]`).cells[1].textContent;
+        for (const line of report.split("\n").filter(line => line.startsWith("train"))) {
+            const [, train, fate] = line.split(" ");
+            const said = await browser.run(now, train);
             assert.ok(said.startsWith(fate), `${train}: ${said}`);
         }
     });
@@ -246,7 +253,8 @@ async function testWays(name) {
         const same = async () => {
             const now = await browser.run(picture);
             const from = [...now].findIndex((sign, i) => sign !== linked[i]);
-            assert.ok(now === linked, `${now.slice(from - 100, from + 100)}\nin place of\n${linked.slice(from - 100, from + 100)}`);
+            const about = text => text.slice(Math.max(0, from - 100), from + 100);
+            assert.ok(now === linked, `${about(now)}\nin place of\n${about(linked)}`);
         };
         await browser.key("End");
         await browser.key("Home");
@@ -304,9 +312,11 @@ async function testWays(name) {
         await browser.key("Home");
         await browser.click(...await browser.run(middleOf, '#rows [data-move="5"]'));
         assert.equal(await browser.run(at), 5);
-        assert.equal(await browser.run(() => document.querySelector('[aria-selected="true"]').dataset.move), "5");
-        const fifth = read("pages", name + ".report").split("\n")[6];
-        assert.equal(await browser.run(() => document.querySelector('[aria-selected="true"]').lastChild.textContent), fifth);
+        const chosen = () => {
+            const row = document.querySelector('[aria-selected="true"]');
+            return [row.dataset.move, row.lastChild.textContent];
+        };
+        assert.deepEqual(await browser.run(chosen), ["5", read("pages", name + ".report").split("\n")[6]]);
     });
     await test("every line of the list is that of the report", async () => {
         const lines = read("pages", name + ".report").split("\n").slice(2);
@@ -327,18 +337,20 @@ async function testView(name) {
         const [x, y] = await browser.run(middleOf, "#picture");
         const at = await browser.run(view);
         for (const [type, by] of [["mousePressed", 0], ["mouseMoved", 60], ["mouseReleased", 60]]) {
-            await browser.send("Input.dispatchMouseEvent", { type, x: x + by, y, button: "left", buttons: 1, clickCount: 1 });
+            const mouse = { type, x: x + by, y, button: "left", buttons: 1, clickCount: 1 };
+            await browser.send("Input.dispatchMouseEvent", mouse);
         }
         assert.ok((await browser.run(view))[0] < at[0]);
         await browser.key("0", "Digit0", "0");
         await browser.run(wait, 50);
         const [left, top, width, height] = await browser.run(view);
-        const inside = await browser.run((left, top, width, height) => [...document.querySelectorAll("#picture .labels text")]
-            .every(text => {
-                const box = text.getBBox();
-                return box.x >= left && box.y >= top && box.x + box.width <= left + width && box.y + box.height <= top + height;
-            }), left, top, width, height);
-        assert.ok(inside, "all names are seen");
+        const inside = (left, top, right, bottom) => {
+            const boxes = [...document.querySelectorAll("#picture .labels text")].map(text => text.getBBox());
+            return boxes.every(({ x, y, width, height }) => {
+                return x >= left && y >= top && x + width <= right && y + height <= bottom;
+            });
+        };
+        assert.ok(await browser.run(inside, left, top, left + width, top + height), "all names are seen");
     });
     await test("light and dark", async () => {
         const paper = () => getComputedStyle(document.getElementById("stage")).backgroundColor;
@@ -395,8 +407,9 @@ async function testView(name) {
 // A report whose moves break the rules is drawn as it says.
 async function testWrong() {
     await test("a wrong report is drawn as it says", async () => {
-        const wrong = read("faults", "101.html").replace(/(id="report">)[^<]*/,
-            "$1relis report 1\ntries 1\nenter T1 J1 A B\nleave T1 A\nleave T1 A\nunlock T2 E\ntrain T1 spent 7 7\ntrain T2 underway 0 0\nend\n");
+        const report = ["relis report 1", "tries 1", "enter T1 J1 A B", "leave T1 A", "leave T1 A", "unlock T2 E",
+            "train T1 spent 7 7", "train T2 underway 0 0", "end", ""].join("\n");
+        const wrong = read("faults", "101.html").replace(/(id="report">)[^<]*/, "$1" + report);
         fs.writeFileSync(path.join(folder, "pages", "wrong.html"), wrong);
         await browser.visit(page("wrong"), "#move=2");
         assert.deepEqual((await browser.run(drawnWorld)).trains, { T1: "B", T2: "B" });
@@ -412,23 +425,21 @@ async function testFaults() {
         const html = read("faults", fault + ".html");
         await test("the page says: " + sentence, async () => {
             if (i % 9 && !/script|100000/.test(sentence)) {
-                const [tables, report] = ["tables", "report"].map(id => html.split(`id="${id}">`)[1].split("</script>")[0]);
+                const text = id => html.split(`id="${id}">`)[1].split("</script>")[0];
                 const says = await browser.run((tables, report) => {
                     try {
                         readReport(report, readTables(tables));
                     } catch (fault) {
                         return fault.message;
                     }
-                }, tables, report);
+                }, text("tables"), text("report"));
                 assert.equal(says, sentence);
                 return;
             }
             await browser.visit(path.join(folder, "faults", fault + ".html"));
-            const shown = await browser.run(() => ({
-                says: document.querySelector("#fault")?.textContent, main: document.querySelectorAll("main, #picture").length,
-                buttons: [...document.querySelectorAll("button")].filter(button => button.offsetParent).length,
-            }));
-            assert.deepEqual(shown, { says: "This can't be drawn: " + sentence, main: 0, buttons: 0 });
+            const shown = await browser.run(() => [document.querySelector("#fault")?.textContent,
+                document.querySelectorAll("main, svg, button").length]);
+            assert.deepEqual(shown, ["This can't be drawn: " + sentence, 0]);
         });
     }
 }
