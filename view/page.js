@@ -162,6 +162,7 @@ class Page {
             row.setAttribute("aria-setsize", this.play.length + 1);
             const move = this.run.moves[at - 1];
             const line = at ? lineOf(this.net, move) : "the start";
+            row.title = line;
             const refused = at > 0 && move.by !== NONE;
             row.append(element("span", String(at), "number"), element("span", line, refused ? "no" : ""));
             rows.push(row);
@@ -413,15 +414,20 @@ class View {
         if (this.kept) this.keep(this.kept);
     }
 
-    // The height of the picture follows the network. All of it is seen where that can be read, otherwise its beginning.
+    // The height of the picture follows the network. All of it is seen where that can be read, otherwise a part.
     fit() {
         const { wide } = this.size();
-        const most = Math.max(240, Math.min(innerHeight * 0.62, 900));
+        const most = Math.max(240, Math.min(innerHeight * 0.62, 1400));
         const readable = wide < 700 ? 0.7 : 0.4;
-        const scale = Math.max(Math.min(wide / this.bounds.width, 1.6), readable);
+        const scale = Math.max(Math.min(wide / this.bounds.width, this.largest()), readable);
         this.svg.style.height = Math.max(150, Math.min(most, this.bounds.height * scale)) + "px";
-        this.set(0, 0, wide / Math.max(Math.min(this.fitting(), 1.6), readable));
+        this.set(0, 0, wide / Math.max(Math.min(this.fitting(), this.largest()), readable));
         this.centre(true);
+    }
+
+    // A small network isn't drawn larger than this.
+    largest() {
+        return Math.max(1.6, this.size().wide / 750);
     }
 
     centre(cropped) {
@@ -435,7 +441,7 @@ class View {
         this.moved = false;
         this.svg.style.height = "";
         this.fit();
-        const scale = Math.min(this.fitting(), 1.6);
+        const scale = Math.min(this.fitting(), this.largest());
         this.set(0, 0, this.size().wide / scale);
         this.centre(false);
     }

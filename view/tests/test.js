@@ -464,7 +464,7 @@ async function testSpeed(name) {
         });
         console.log(`view/test: ${name} is there after ${there.toFixed(0)} ms, a step takes ${step.toFixed(1)} ms,`
             + ` a jump over all moves ${jump.toFixed(0)} ms`);
-        assert.ok(there < 3000 && step < 30 && jump < 300);
+        assert.ok(there < 5000 && step < 100 && jump < 1000);
     });
 }
 
