@@ -1,4 +1,4 @@
-//! What everything else is made of: numbers with a type of their own, names, lists, the draft of a
+//! What everything else is made of: numbers with a type of their own, the limits, names, lists, the draft of a
 //! network, the places that refusals name, and the numbering of nodes.
 //!
 //! It gives upward: an id, a name and a place mean one thing everywhere; a list is seen by contracts as
@@ -10,6 +10,7 @@ pub mod ids;
 pub mod job;
 pub mod kind;
 pub mod layout;
+pub mod limits;
 pub mod memory;
 pub mod name;
 pub mod place;
