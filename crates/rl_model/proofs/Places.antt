@@ -1,6 +1,6 @@
 -- Where each rule can be broken, and that its search answers the first such place.
-use Rattle.std.proofs.Common.{◌≡◌, ℕ, ◌<◌, Bool, true, false, ltb, eqb, ◌||◌, ◌&&◌, List, length, map, slice_get, Option, Some, None, ◌⊎◌, inl, inr, refl, sym, subst, subst₂}
-use Rattle.std.proofs.lemmas.Bool.{false≢true, or_left, or_right, and_from, and_parts, eqb-true, ltb-true, eq-eqb, lt-ltb}
+use Rattle.std.proofs.Common.{◌≡◌, ℕ, ◌<◌, Bool, true, false, eqb, List, length, map, slice_get, Option, Some, None, ◌⊎◌, inl, inr, refl, sym, subst, subst₂}
+use Rattle.std.proofs.lemmas.Bool.{false≢true, or_left, and_parts, eqb-true, ltb-true, lt-ltb}
 use Rattle.std.proofs.lemmas.List.{length-map}
 use Rattle.std.proofs.lemmas.Option.{slice_get_within}
 use Rattle.std.specs.Option.{option_map_or}
@@ -10,7 +10,9 @@ use Rattle.rl_base.specs.declared.draft.DraftBox.{DraftBox}
 use Rattle.rl_base.specs.declared.draft.DraftTrain.{DraftTrain}
 use Rattle.rl_base.specs.declared.draft.Draft.{Draft}
 use Rattle.rl_model.specs.Refusals.{Rule, Count, Twice, ArmCount, NoSegment, SameBox, Ends, At, RouteShape, RouteName, RouteFit, StartShared, breaks, first_place, among_segments, among_boxes, among_trains, among_arms, among_route_places, arms_at, route_length}
-use Rattle.rl_model.proofs.Search.{Finds, Finds-one, Finds-or, Finds-row, Finds-grid, Finds-all, Below, IsNoLater}
+use Rattle.rl_model.proofs.Search.{Finds, Finds-one, Finds-or, Finds-row, Finds-grid, Finds-all, Below}
+use Rattle.rl_base.specs.Place.{IsNoLater}
+use Rattle.rl_base.proofs.PlaceOrder.{last_number}
 
 -- a test that passes on what there is: there is something, and the test passes on it
 pub on_some : {X : Type 0} (test : X → Bool) (o : Option X) → option_map_or test o false ≡ true → (x : X) × (o ≡ Some x) × (test x ≡ true)
@@ -20,10 +22,6 @@ on_some test (Some x) e = (x, refl, e)
 -- a test that passes on the item at i: i is within the list
 pub on_within : {X : Type 0} (test : X → Bool) (xs : List X) (i : ℕ) → option_map_or test (slice_get xs i) false ≡ true → i < length xs
 on_within test xs i e = let h = on_some test (slice_get xs i) e in slice_get_within xs i h.0 h.1
-
--- the order of two keys that differ in the last part alone
-last : (i j k : ℕ) → j < k → (ltb i i || (eqb i i && (ltb j k || (eqb j k && true)))) ≡ true
-last i j k l = or_right (ltb i i) _ (and_from (eqb i i) _ (eq-eqb i i refl) (or_left (ltb j k) _ (lt-ltb j k l)))
 
 -- places of a row
 abbrev Row : (ℕ → Place) → ℕ → Place → Type 0
@@ -63,11 +61,11 @@ Finds-routes d rule = Finds-row (breaks d rule) place.TrainRoute (λ i j l. or_l
 
 -- among the arms
 Finds-arms : (d : Draft) (rule : Rule) → Finds (breaks d rule) (Arms d) (among_arms d rule)
-Finds-arms d rule = Finds-grid (breaks d rule) place.BoxArm last (λ i i2 j j2 l. or_left _ _ (lt-ltb i i2 l)) (arms_at d) (length d.boxes)
+Finds-arms d rule = Finds-grid (breaks d rule) place.BoxArm last_number (λ i i2 j j2 l. or_left _ _ (lt-ltb i i2 l)) (arms_at d) (length d.boxes)
 
 -- among the places of routes
 Finds-route_places : (d : Draft) (rule : Rule) → Finds (breaks d rule) (RoutePlaces d) (among_route_places d rule)
-Finds-route_places d rule = Finds-grid (breaks d rule) place.RouteItem last (λ i i2 j j2 l. or_left _ _ (lt-ltb i i2 l)) (route_length d) (length d.trains)
+Finds-route_places d rule = Finds-grid (breaks d rule) place.RouteItem last_number (λ i i2 j j2 l. or_left _ _ (lt-ltb i i2 l)) (route_length d) (length d.trains)
 
 -- an arm at which a test of the box passes that reads the arm is an arm of the draft
 arm_there : (d : Draft) (i j : ℕ) (x : DraftBox) → slice_get d.boxes i ≡ Some x → j < length x.arms → Arms d (place.BoxArm i j)

@@ -5,7 +5,9 @@ use Rattle.std.specs.Option.{option_or, option_map}
 use Rattle.rl_base.specs.declared.place.Place.{Place}
 use Rattle.rl_base.specs.declared.draft.Draft.{Draft}
 use Rattle.rl_model.specs.Refusals.{Rule, Count, Twice, ArmCount, NoSegment, SameBox, Ends, At, RouteShape, RouteName, RouteFit, StartShared, number_of, breaks, first_place, first_of, first_refusal, Refusal, IsFirstRefusal, IsAccepted}
-use Rattle.rl_model.proofs.Search.{Finds, IsNoLater, IsNoLater-antisymmetric}
+use Rattle.rl_base.specs.Place.{IsNoLater}
+use Rattle.rl_base.proofs.PlaceOrder.{IsNoLater-antisymmetric}
+use Rattle.rl_model.proofs.Search.{Finds}
 use Rattle.rl_model.proofs.Places.{each_rule}
 
 -- the rule is one of these

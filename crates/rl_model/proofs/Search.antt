@@ -1,24 +1,11 @@
 -- What a search for the first broken place answers, built from its parts.
-use Rattle.std.proofs.Common.{◌≡◌, ℕ, zero, suc, ◌<◌, ◌≤◌, Bool, true, false, cond, ltb, eqb, ◌||◌, ◌&&◌, List, [], ◌∷◌, Option, Some, None, ◌⊎◌, inl, inr, ⊎_elim, refl, sym, ap, ap₂, ◌∙◌, subst, subst₂, arith}
-use Rattle.std.proofs.lemmas.Bool.{both_ways, false≢true, false_from_ne_true, or_right, and_from, eq-eqb, cases_lt}
-use Rattle.std.proofs.lemmas.Bool.Decides.{nat_tests}
+use Rattle.std.proofs.Common.{◌≡◌, ℕ, zero, suc, ◌<◌, ◌≤◌, Bool, true, false, cond, Option, Some, None, ◌⊎◌, inl, inr, ⊎_elim, refl, sym, ap, ◌∙◌, subst, subst₂, arith}
+use Rattle.std.proofs.lemmas.Bool.{both_ways, false_from_ne_true, cases_lt}
 use Rattle.std.specs.Option.{option_or}
 use Rattle.rl_base.specs.declared.place.Place.{Place}
-use Rattle.rl_base.specs.declared.place.Place.TheVariants as place
-use Rattle.rl_model.specs.Refusals.{place_key, is_no_later, first_below}
-
--- p is not after q in the order of places
-abbrev pub IsNoLater : Place → Place → Type 0
-IsNoLater p q = is_no_later (place_key p) (place_key q) ≡ true
-
--- a number list is not after itself
-is_no_later-same : (xs : List ℕ) → is_no_later xs xs ≡ true
-is_no_later-same [] = refl
-is_no_later-same (x ∷ xs) = or_right (ltb x x) _ (and_from (eqb x x) _ (eq-eqb x x refl) (is_no_later-same xs))
-
--- a place is not after itself
-pub IsNoLater-same : (p : Place) → IsNoLater p p
-IsNoLater-same p = is_no_later-same (place_key p)
+use Rattle.rl_base.specs.Place.{IsNoLater}
+use Rattle.rl_base.proofs.PlaceOrder.{IsNoLater-same}
+use Rattle.rl_model.specs.Refusals.{first_below}
 
 -- p is the first of these places that passes the test
 pub record IsFirstPlace (test : Place → Bool) (Among : Place → Type 0) (p : Place) : Type 0 where
@@ -90,65 +77,3 @@ Finds-grid test at within across m n =
 -- a search of each place at which the test can pass
 pub Finds-all : (test : Place → Bool) (A : Place → Type 0) (o : Option Place) → Finds test A o → ((q : Place) → test q ≡ true → A q) → Finds test (λ q. Unit {0}) o
 Finds-all test A o a from = Finds-same test A (λ q. Unit {0}) o (λ q h. tt) (λ q h e. from q e) a
-
--- of two number lists neither of which is after the other, both are the same
-is_no_later-antisymmetric : (xs ys : List ℕ) → is_no_later xs ys ≡ true → is_no_later ys xs ≡ true → xs ≡ ys
-is_no_later-antisymmetric [] [] a b = refl
-is_no_later-antisymmetric [] (y ∷ ys) a b = absurd (false≢true b)
-is_no_later-antisymmetric (x ∷ xs) [] a b = absurd (false≢true a)
-is_no_later-antisymmetric (x ∷ xs) (y ∷ ys) a b =
-    let p = heads_same x y (is_no_later xs ys) (is_no_later ys xs) a b in
-    ap₂ (λ (n : ℕ) (ns : List ℕ). n ∷ ns) p.0 (is_no_later-antisymmetric xs ys p.1 p.2)
-  where
-    heads_same : (x y : ℕ) (s t : Bool) → (ltb x y || (eqb x y && s)) ≡ true → (ltb y x || (eqb y x && t)) ≡ true → (x ≡ y) × (s ≡ true) × (t ≡ true)
-    heads_same x y s t a b = grind (arith, nat_tests)
-
--- the place that has the key
-place_of : List ℕ → Place
-place_of [] = place.None
-place_of (n ∷ []) = place.None
-place_of (n ∷ i ∷ []) = place.None
-place_of (n ∷ i ∷ m ∷ []) = place.None
-place_of (n ∷ i ∷ m ∷ j ∷ rest) =
-    cond (eqb n 0) place.None
-    (cond (eqb n 1) place.Top
-    (cond (eqb n 2) place.Format
-    (cond (eqb n 3) place.Segments
-    (cond (eqb n 4) (place.Segment i)
-    (cond (eqb n 5) place.Boxes
-    (cond (eqb n 6)
-    (cond (eqb m 6) (place.BoxItem i)
-    (cond (eqb m 7) (place.BoxName i)
-    (cond (eqb m 8) (place.BoxKind i) (cond (eqb m 9) (place.BoxArms i) (cond (eqb m 10) (place.BoxArm i j) (place.BoxSide i))))))
-    (cond (eqb n 12) place.Trains
-    (cond (eqb n 13)
-    (cond (eqb m 13) (place.TrainItem i) (cond (eqb m 14) (place.TrainName i) (cond (eqb m 15) (place.TrainRoute i) (place.RouteItem i j))))
-    (cond (eqb n 17) (place.ScheduleLine i) (place.ReportLine i))))))))))
-
--- each place is the one that has its key
-place_of-key : (p : Place) → place_of (place_key p) ≡ p
-unfolding place_of
-place_of-key place.None = refl
-place_of-key place.Top = refl
-place_of-key place.Format = refl
-place_of-key place.Segments = refl
-place_of-key (place.Segment i) = refl
-place_of-key place.Boxes = refl
-place_of-key (place.BoxItem i) = refl
-place_of-key (place.BoxName i) = refl
-place_of-key (place.BoxKind i) = refl
-place_of-key (place.BoxArms i) = refl
-place_of-key (place.BoxArm i j) = refl
-place_of-key (place.BoxSide i) = refl
-place_of-key place.Trains = refl
-place_of-key (place.TrainItem i) = refl
-place_of-key (place.TrainName i) = refl
-place_of-key (place.TrainRoute i) = refl
-place_of-key (place.RouteItem i j) = refl
-place_of-key (place.ScheduleLine n) = refl
-place_of-key (place.ReportLine n) = refl
-
--- two places neither of which is after the other are the same
-pub IsNoLater-antisymmetric : (p q : Place) → IsNoLater p q → IsNoLater q p → p ≡ q
-IsNoLater-antisymmetric p q a b =
-    sym (place_of-key p) ∙ (ap place_of (is_no_later-antisymmetric (place_key p) (place_key q) a b) ∙ place_of-key q)

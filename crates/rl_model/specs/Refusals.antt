@@ -11,6 +11,7 @@ use Rattle.rl_base.specs.declared.draft.DraftBox.{DraftBox}
 use Rattle.rl_base.specs.declared.draft.DraftTrain.{DraftTrain}
 use Rattle.rl_base.specs.declared.draft.Draft.{Draft}
 use Rattle.rl_base.specs.Kind.{arms_of}
+use Rattle.rl_base.specs.Place.{IsNoLater}
 use Rattle.rl_model.specs.Network.{joined}
 use Rattle.rl_model.specs.Drafts.{number_in, box_names, train_names, ends_of}
 
@@ -156,39 +157,11 @@ breaks d RouteName p = breaks_route_name d p
 breaks d RouteFit p = breaks_route_fit d p
 breaks d StartShared p = breaks_start_shared d p
 
--- Where a place stands in the order of places: rank, then the index of the box or train, the rank within it, and the index there
-abbrev pub place_key : Place → List ℕ
-place_key place.None = 0 ∷ 0 ∷ 0 ∷ 0 ∷ []
-place_key place.Top = 1 ∷ 0 ∷ 0 ∷ 0 ∷ []
-place_key place.Format = 2 ∷ 0 ∷ 0 ∷ 0 ∷ []
-place_key place.Segments = 3 ∷ 0 ∷ 0 ∷ 0 ∷ []
-place_key (place.Segment i) = 4 ∷ i ∷ 0 ∷ 0 ∷ []
-place_key place.Boxes = 5 ∷ 0 ∷ 0 ∷ 0 ∷ []
-place_key (place.BoxItem i) = 6 ∷ i ∷ 6 ∷ 0 ∷ []
-place_key (place.BoxName i) = 6 ∷ i ∷ 7 ∷ 0 ∷ []
-place_key (place.BoxKind i) = 6 ∷ i ∷ 8 ∷ 0 ∷ []
-place_key (place.BoxArms i) = 6 ∷ i ∷ 9 ∷ 0 ∷ []
-place_key (place.BoxArm i j) = 6 ∷ i ∷ 10 ∷ j ∷ []
-place_key (place.BoxSide i) = 6 ∷ i ∷ 11 ∷ 0 ∷ []
-place_key place.Trains = 12 ∷ 0 ∷ 0 ∷ 0 ∷ []
-place_key (place.TrainItem i) = 13 ∷ i ∷ 13 ∷ 0 ∷ []
-place_key (place.TrainName i) = 13 ∷ i ∷ 14 ∷ 0 ∷ []
-place_key (place.TrainRoute i) = 13 ∷ i ∷ 15 ∷ 0 ∷ []
-place_key (place.RouteItem i j) = 13 ∷ i ∷ 16 ∷ j ∷ []
-place_key (place.ScheduleLine n) = 17 ∷ n ∷ 0 ∷ 0 ∷ []
-place_key (place.ReportLine n) = 18 ∷ n ∷ 0 ∷ 0 ∷ []
-
--- the first key isn't after the second: they are compared number by number
-abbrev pub is_no_later : List ℕ → List ℕ → Bool
-is_no_later [] ys = true
-is_no_later (x ∷ xs) [] = false
-is_no_later (x ∷ xs) (y ∷ ys) = nat_lt x y || (x == y && is_no_later xs ys)
-
 -- the plain sentence: the draft breaks the rule at the place, no rule with a lower number is broken, and of
 -- this rule no earlier place is
 pub record IsFirstRefusal (d : Draft) (rule : Rule) (p : Place) : Type 0 where
   pub broken : breaks d rule p ≡ true
-  pub least : (other : Rule) (q : Place) → breaks d other q ≡ true → (number_of rule < number_of other) ⊎ ((rule ≡ other) × (is_no_later (place_key p) (place_key q) ≡ true))
+  pub least : (other : Rule) (q : Place) → breaks d other q ≡ true → (number_of rule < number_of other) ⊎ ((rule ≡ other) × IsNoLater p q)
 
 -- no rule is broken
 abbrev pub IsAccepted : Draft → Type 0
