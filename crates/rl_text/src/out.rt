@@ -1,11 +1,13 @@
-ghost use Rattle.std.specs.Prelude.{◌≡◌, ◌++◌, ℕ, List, [], OnOk, OnErr, decimal};
+ghost use Rattle.std.specs.Prelude.{◌≡◌, ◌∷◌, ◌++◌, ℕ, List, [], OnOk, OnErr, decimal};
+ghost use Rattle.rl_text.specs.Words.{line_of, spaced, texts};
 
 use itoa::Buffer;
 use rl_base::NoMemory;
 use std::alloc::Global;
 use std::marker::Model;
 
-/// A text that grows at its end. Contracts see it as its bytes.
+/// A text that grows at its end. Contracts see it as its bytes. Where memory runs out while a word or a line
+/// is appended, a part of it may stand at the end.
 #[derive(Debug, Drop)]
 pub struct Out {
     bytes: Vec<u8>,
@@ -43,6 +45,41 @@ impl Out {
     {
         let mut buffer = Buffer::new();
         self.text(buffer.format(n).as_bytes())
+    }
+
+    /// Appends a space and the word.
+    pub fn word(&mut self, word: &[u8]) -> Result<(), NoMemory>
+        ensures { OnOk result (self.new ≡ self.old ++ 32 ∷ word.now) }
+    {
+        self.text(b" ")?;
+        self.text(word)
+    }
+
+    /// Appends a space and the number.
+    pub fn count(&mut self, n: u32) -> Result<(), NoMemory>
+        ensures { OnOk result (self.new ≡ self.old ++ 32 ∷ decimal n) }
+    {
+        self.text(b" ")?;
+        self.number(u64::from(n))
+    }
+
+    /// Appends the words, each after a space.
+    fn words(&mut self, words: &[&[u8]]) -> Result<(), NoMemory>
+        ensures { OnOk result (self.new ≡ self.old ++ spaced (texts words.now)) }
+    {
+        for word in words {
+            self.word(word)?;
+        }
+        Ok(())
+    }
+
+    /// Appends a line: the first word, the others each after a space, and LF.
+    pub fn line(&mut self, first: &[u8], others: &[&[u8]]) -> Result<(), NoMemory>
+        ensures { OnOk result (self.new ≡ self.old ++ line_of (first.now ∷ texts others.now)) }
+    {
+        self.text(first)?;
+        self.words(others)?;
+        self.text(b"\n")
     }
 
     /// Lends the bytes.
