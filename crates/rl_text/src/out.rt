@@ -1,5 +1,6 @@
 ghost use Rattle.std.specs.Prelude.{◌≡◌, ◌∷◌, ◌++◌, ℕ, List, [], OnOk, OnErr, decimal};
-ghost use Rattle.rl_text.specs.Words.{line_of, spaced, texts};
+ghost use Rattle.std.specs.List.{join_with_byte};
+ghost use Rattle.rl_text.specs.Words.{spaced, texts};
 
 use itoa::Buffer;
 use rl_base::NoMemory;
@@ -75,7 +76,7 @@ impl Out {
 
     /// Appends a line: the first word, the others each after a space, and LF.
     pub fn line(&mut self, first: &[u8], others: &[&[u8]]) -> Result<(), NoMemory>
-        ensures { OnOk result (self.new ≡ self.old ++ line_of (first.now ∷ texts others.now)) }
+        ensures { OnOk result (self.new ≡ self.old ++ (join_with_byte 32 (first.now ∷ texts others.now) ++ 10 ∷ [])) }
     {
         self.text(first)?;
         self.words(others)?;
