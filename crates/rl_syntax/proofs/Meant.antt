@@ -5,6 +5,7 @@ use Rattle.std.proofs.lemmas.Str.{IsUtf8-from_is_utf8, is_utf8-from_IsUtf8}
 use Rattle.std.specs.Str.{is_utf8}
 use Rattle.rl_base.specs.Draft.{HasNames}
 use Rattle.rl_base.specs.declared.draft.Draft.{Draft}
+use Rattle.rl_base.specs.declared.limits.TheConstants.{MAX_NETWORK_BYTES}
 use Rattle.rl_base.specs.declared.place.Place.{Place}
 use Rattle.rl_syntax.specs.Answer.{unless_bad, of_reading, of_document, answer_to, UnlessMemory}
 use Rattle.rl_syntax.specs.Condition.{first}
@@ -31,7 +32,7 @@ in_answer (Err (BadName p)) P Q f h = f h
 in_answer (Err NoMemory) P Q f h = tt
 
 -- a text is a document where it is UTF-8 and parses
-document_is : (text : List ℕ) (m : Members) → length text ≤ 65536 → document text ≡ Some m → IsDocument text m
+document_is : (text : List ℕ) (m : Members) → length text ≤ MAX_NETWORK_BYTES → document text ≡ Some m → IsDocument text m
 unfolding document
 document_is text m short h = by_test (is_utf8 text) refl h
   where
@@ -51,15 +52,15 @@ by_reading : (text : List ℕ) (m : Members) → IsDocument text m → (r : Read
 by_reading text m is (Ok d) e = by_name text m d is (record { keys = key_first m ∙ ap stop e; says = draft_says m d e }) (first (name_conditions d)) refl
 by_reading text m is (Err p) e = (m, is, key_first m ∙ ap stop e)
 
-by_document : (text : List ℕ) → length text ≤ 65536 → (o : Option Members) → document text ≡ o → Means text (of_document o)
+by_document : (text : List ℕ) → length text ≤ MAX_NETWORK_BYTES → (o : Option Members) → document text ≡ o → Means text (of_document o)
 by_document text short None e = (short, λ m is. let k = is_document text m is in cc)
 by_document text short (Some m) e = by_reading text m (document_is text m short e) (draft_of m) refl
 
 pub answer_means : (text : List ℕ) → Means text (answer_to text)
 unfolding answer_to
-answer_means text = by_length (nat_lt 65536 (length text)) refl
+answer_means text = by_length (nat_lt MAX_NETWORK_BYTES (length text)) refl
   where
-    by_length : (b : Bool) → nat_lt 65536 (length text) ≡ b → Means text (cond b (Err TooLong) (of_document (document text)))
+    by_length : (b : Bool) → nat_lt MAX_NETWORK_BYTES (length text) ≡ b → Means text (cond b (Err TooLong) (of_document (document text)))
     by_length true e = grind (arith, nat_tests)
     by_length false e = by_document text (grind (arith, nat_tests)) (document text) refl
 
@@ -89,9 +90,9 @@ reads_draft m d has =
     let (e, read) = reads_on (draft_of m) (sym (key_first m) ∙ has.keys) in
     read ∙ ap Ok (same_draft m e d (draft_says m e read) has.says)
 
-answer_short : (text : List ℕ) → length text ≤ 65536 → answer_to text ≡ of_document (document text)
+answer_short : (text : List ℕ) → length text ≤ MAX_NETWORK_BYTES → answer_to text ≡ of_document (document text)
 unfolding answer_to
-answer_short text short = let e : nat_lt 65536 (length text) ≡ false = grind (arith, nat_tests) in rw e
+answer_short text short = let e : nat_lt MAX_NETWORK_BYTES (length text) ≡ false = grind (arith, nat_tests) in rw e
 
 answer_document : (text : List ℕ) (m : Members) → IsDocument text m → answer_to text ≡ of_reading (draft_of m)
 answer_document text m is = answer_short text is.short ∙ ap of_document (is_document text m is)
@@ -100,16 +101,16 @@ answer_document text m is = answer_short text is.short ∙ ap of_document (is_do
 answer_draft : (text : List ℕ) (m : Members) (d : Draft) → IsDocument text m → HasDraft m d → answer_to text ≡ unless_bad d (first (name_conditions d))
 answer_draft text m d is has = answer_document text m is ∙ ap of_reading (reads_draft m d has)
 
-no_document : (text : List ℕ) → length text ≤ 65536 → ((m : Members) → IsDocument text m → ⊥) → document text ≡ None
+no_document : (text : List ℕ) → length text ≤ MAX_NETWORK_BYTES → ((m : Members) → IsDocument text m → ⊥) → document text ≡ None
 no_document text short none = by_cases (document text) refl
   where
     by_cases : (o : Option Members) → document text ≡ o → o ≡ None
     by_cases None e = refl
     by_cases (Some m) e = absurd (none m (document_is text m short e))
 
-too_long : (text : List ℕ) → 65536 < length text → answer_to text ≡ Err TooLong
+too_long : (text : List ℕ) → MAX_NETWORK_BYTES < length text → answer_to text ≡ Err TooLong
 unfolding answer_to
-too_long text long = let e : nat_lt 65536 (length text) ≡ true = grind (arith, nat_tests) in rw e
+too_long text long = let e : nat_lt MAX_NETWORK_BYTES (length text) ≡ true = grind (arith, nat_tests) in rw e
 
 -- what means this of the text is its answer
 pub answer_to-from_means : (text : List ℕ) (r : Result Draft SyntaxRefusal) → Means text r → answer_to text ≡ r

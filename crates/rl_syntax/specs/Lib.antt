@@ -1,5 +1,6 @@
 pub mod Answer
 pub mod Condition
+pub mod Countable
 pub mod Document
 pub mod KeyConditions
 pub mod Meaning

@@ -17,5 +17,5 @@ mod tests;
 mod trains;
 mod values;
 
-pub use read::{MAX_TEXT, read_draft};
+pub use read::read_draft;
 pub use refusal::SyntaxRefusal;
