@@ -22,7 +22,7 @@ pub mod text;
 pub use draft::{Draft, DraftBox, DraftBoxes, DraftTrain, DraftTrains};
 pub use ids::{Arm, BoxId, NodeNo, SegId, TrainId, WordNo};
 pub use job::{Job, Verb};
-pub use kind::{Kind, Side, arm_count, joins, side_of};
+pub use kind::{Kind, Side, arm_count, joins, kind_word, side_of, side_word};
 pub use layout::{Layout, NodeKind, WordKind, numberings};
 pub use memory::NoMemory;
 pub use name::{Name, Names, name_ok};
