@@ -8,5 +8,6 @@ pub mod NameConditions
 pub mod Network
 pub mod Reading
 pub mod Spelling
+pub mod SyntaxRefusals
 pub mod Table
-pub mod Values
+pub mod Words

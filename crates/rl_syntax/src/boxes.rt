@@ -3,13 +3,13 @@ ghost use Rattle.toml.specs.View.{view, table_view, items_view};
 ghost use Rattle.rl_syntax.specs.Countable.{IsCountable, HasCountableArms};
 ghost use Rattle.rl_syntax.specs.Network.{box_of, box_in, boxes_of};
 ghost use Rattle.rl_syntax.specs.Reading.{Reads, needed, optional};
-ghost use Rattle.rl_syntax.specs.Values.{kind_named, side_of};
+ghost use Rattle.rl_syntax.specs.Words.{kind_named, side_of};
 
 use crate::keys::Keys;
 use crate::names::{NameList, is_countable, name_at, needed_names};
 use crate::refusal::SyntaxRefusal;
 use crate::table::{array_at, table_with, text_at, value_at};
-use crate::values::{kind_named, side_named};
+use crate::words::{kind_named, side_named};
 use rl_base::{DraftBox, DraftBoxes, Kind, Place, Side};
 use std::alloc::Global;
 use toml::{Table, Value};
