@@ -14,7 +14,7 @@ use rl_direct::drive;
 use rl_net::Network;
 use rl_outside::{Fetch, Files};
 use rl_report::report_text;
-use rl_syntax::MAX_TEXT;
+use rl_base::limits::MAX_NETWORK_BYTES;
 use rl_tables::{compile, tables_text};
 use rl_text::Out;
 use std::alloc::Global;
@@ -74,7 +74,7 @@ fn carry_out<F: Files>(alloc: Global, order: Order<'_>, files: &mut F) -> Result
     ensures later { (n : List ℕ) → F.faults files.old n ≤ F.faults files.new n }
     ensures others { (n : List ℕ) → n ≢ net_of (order_as order.entry) → F.faults files.new n ≡ F.faults files.old n }
 {
-    match files.fetch(alloc, order.net(), MAX_TEXT) {
+    match files.fetch(alloc, order.net(), MAX_NETWORK_BYTES) {
         Ok(bytes) => answer_to(alloc, order, bytes.as_slice()),
         Err(Fetch::Failed) => Ok(Decision {
             status: Status::ReadFault,
