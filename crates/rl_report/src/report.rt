@@ -4,7 +4,7 @@ ghost use Rattle.rl_model.specs.Moves.{IsMoveOf, IsTrainOf, IsSegmentOf, IsBoxOf
 ghost use Rattle.rl_model.specs.Reports.{IsReportOf};
 ghost use Rattle.rl_model.specs.ReportText.{report_text, move_line, outcome_line, outcome_lines, fate_word};
 
-use rl_base::{BoxId, NoMemory, SegId, TrainId, side_word};
+use rl_base::{BoxId, NoMemory, SegId, Side, TrainId, side_word};
 use rl_model::{Fate, Move, Outcome, Report};
 use rl_net::Network;
 use rl_text::Out;
@@ -18,6 +18,17 @@ fn fate_word(fate: Fate) -> &'static [u8]
         Fate::Spent => b"spent",
         Fate::Underway => b"underway",
     }
+}
+
+/// Appends the line of points that settle.
+fn put_settle(out: &mut Out, net: &Network, b: BoxId, side: Side) -> Result<(), NoMemory>
+    requires { IsBoxOf net.now b }
+    ensures { OnOk result (out.new ≡ out.old ++ move_line net.now (Move.Settle b side)) }
+{
+    out.text(b"settle")?;
+    out.word(net.box_name(b))?;
+    out.word(side_word(side))?;
+    out.text(b"\n")
 }
 
 /// Appends the line of a move.
@@ -45,7 +56,7 @@ fn put_move(out: &mut Out, net: &Network, m: Move) -> Result<(), NoMemory>
         ),
         Move::Unlock { t, b } => { out.line(b"unlock", &[net.train_name(t), net.box_name(b)]) }
         Move::Throw { b } => out.line(b"throw", &[net.box_name(b)]),
-        Move::Settle { b, side } => { out.line(b"settle", &[net.box_name(b), side_word(side)]) }
+        Move::Settle { b, side } => put_settle(out, net, b, side),
         Move::Enter { t, b, s, s2 } => out.line(
             b"enter",
             &[
