@@ -1,6 +1,10 @@
-ghost use Rattle.std.specs.Prelude.{◌≡◌, IfOk, IfErr};
-ghost use Rattle.relis.specs.Accepted.{IsAcceptedAs};
-ghost use Rattle.relis.specs.Refusals.{IsFaultOf, fault_of_syntax, fault_of_network};
+ghost use Rattle.std.specs.Prelude.{◌≡◌, ℕ, List, IfOk, IfErr, Ok, Err};
+ghost use Rattle.rl_base.specs.declared.draft.Draft.{Draft};
+ghost use Rattle.rl_model.specs.Refusals.{first_refusal};
+ghost use Rattle.rl_net.specs.NetRefusals.{IsRefusal};
+ghost use Rattle.rl_syntax.specs.Answer.{UnlessMemory};
+ghost use Rattle.rl_syntax.specs.Meaning.{Means};
+ghost use Rattle.relis.specs.Networks.{IsAcceptedAs, IsFaultOf};
 
 use rl_base::Place;
 use rl_model::first_refusals;
@@ -21,20 +25,20 @@ fn refused(number: u32, place: Place) -> NetworkFault
     NetworkFault::Refused { number, place }
 }
 
+/// The fault that a refusal of the reading is.
 fn of_syntax(refusal: SyntaxRefusal) -> NetworkFault
-    ensures { result ≡ fault_of_syntax refusal }
+    ensures { (text : List ℕ) → UnlessMemory (Err refusal) (Means text (Err refusal)) → IsFaultOf text result }
 {
     match refusal {
-        SyntaxRefusal::TooLong => refused(1, Place::None),
-        SyntaxRefusal::NotToml => refused(2, Place::None),
-        SyntaxRefusal::Key(place) => refused(3, place),
-        SyntaxRefusal::BadName(place) => refused(4, place),
         SyntaxRefusal::NoMemory => NetworkFault::NoMemory,
+        _ => refused(refusal.number(), refusal.place()),
     }
 }
 
+/// The fault that a refusal of the draft is.
 fn of_network(refusal: NetRefusal) -> NetworkFault
-    ensures { result ≡ fault_of_network refusal }
+    ensures { (text : List ℕ) (d : Draft) → Means text (Ok d) → IsRefusal refusal (first_refusal d) →
+        IsFaultOf text result }
 {
     match refusal {
         NetRefusal::Count(place) => refused(5, place),

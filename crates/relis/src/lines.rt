@@ -1,4 +1,4 @@
-ghost use Rattle.std.specs.Prelude.{◌≡◌, ◌++◌, OnOk, IfOk, decimal};
+ghost use Rattle.std.specs.Prelude.{◌≡◌, ◌∷◌, ◌++◌, OnOk, IfOk, decimal};
 ghost use Rattle.rl_model.specs.Network.{IsNetwork};
 ghost use Rattle.relis.specs.Lines.{place_text, item_text, nested_text, usage_line, read_fault_line, refused_line, accepted_line};
 
@@ -87,19 +87,20 @@ pub fn refused(alloc: Global, number: u32, place: Place) -> Result<Out, NoMemory
     ensures { IfOk result (λ out. out ≡ refused_line number place) }
 {
     let mut out = Out::new(alloc);
-    out.text(b"refused ")?;
-    out.number(u64::from(number))?;
+    out.text(b"refused")?;
+    out.count(number)?;
     out.text(b" ")?;
     put_place(&mut out, place)?;
     out.text(b"\n")?;
     Ok(out)
 }
 
+/// Appends a word and a number, each after a space.
 fn put_count(out: &mut Out, word: &[u8], count: u32) -> Result<(), NoMemory>
-    ensures { OnOk result (out.new ≡ out.old ++ word.now ++ decimal count) }
+    ensures { OnOk result (out.new ≡ out.old ++ 32 ∷ word.now ++ 32 ∷ decimal count) }
 {
-    out.text(word)?;
-    out.number(u64::from(count))
+    out.word(word)?;
+    out.count(count)
 }
 
 /// What `check` prints of an accepted network.
@@ -109,10 +110,11 @@ pub fn accepted(alloc: Global, net: &Network) -> Result<Out, NoMemory>
     let segments = net.segments();
     let layout = net.layout();
     let mut out = Out::new(alloc);
-    put_count(&mut out, b"accepted segments ", segments)?;
-    put_count(&mut out, b" boxes ", layout.boxes)?;
-    put_count(&mut out, b" trains ", layout.trains)?;
-    put_count(&mut out, b" nodes ", layout.nodes())?;
+    out.text(b"accepted")?;
+    put_count(&mut out, b"segments", segments)?;
+    put_count(&mut out, b"boxes", layout.boxes)?;
+    put_count(&mut out, b"trains", layout.trains)?;
+    put_count(&mut out, b"nodes", layout.nodes())?;
     out.text(b"\n")?;
     Ok(out)
 }

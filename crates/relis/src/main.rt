@@ -7,7 +7,6 @@
 
 mod decide;
 mod judge;
-mod laws;
 mod lines;
 mod orders;
 mod status;
@@ -15,7 +14,6 @@ mod status;
 mod tests;
 mod top;
 
-pub use laws::judgements;
 use rl_base::{Args, NoMemory, Text};
 use rl_outside::{DirFiles, OpenGate, StdSink};
 pub use status::Status;
