@@ -1,11 +1,10 @@
 -- From the answer to an order to what a call promises.
-use Rattle.std.proofs.Common.{◌≡◌, ◌≢◌, ℕ, ◌<◌, ◌≤◌, Bool, true, false, List, [], ◌∷◌, Contains, Option, Some, None, IfSome, IsSome, ◌⊎◌, inl, inr, refl, sym, ap, subst, arith, ◌∙◌}
+use Rattle.std.proofs.Common.{◌≡◌, ◌≢◌, ℕ, ◌<◌, ◌≤◌, Bool, true, false, List, [], ◌∷◌, Contains, Option, Some, None, IfSome, IsSome, option_map, ◌⊎◌, inl, inr, refl, sym, ap, subst, arith, ◌∙◌}
 use Rattle.std.specs.Str.{bytes_eq}
 use Rattle.std.specs.Io.KnownBytes.{Appends}
-use Rattle.std.proofs.lemmas.Bool.{ne_true_from_false}
 use Rattle.std.proofs.lemmas.Option.{same_Some, none-some}
 use Rattle.std.proofs.lemmas.Slice.Eq.{bytes_eq-Decides}
-use Rattle.relis.specs.Answers.{IsAnswerOn, AreTold, IsCarriedOut, IsNamed, NamedRose, NoneRose, LeadsTo}
+use Rattle.relis.specs.Answers.{IsAnswerOn, IsAnswerTo, AreTold, IsCarriedOut, IsNamed, NamedRose, NoneRose, LeadsTo}
 use Rattle.relis.specs.Calls.{Outside, IsWritten, HasCause}
 use Rattle.relis.specs.Orders.{order_of, network_file, files_of}
 use Rattle.relis.specs.declared.orders.Order.{Order}

@@ -9,9 +9,8 @@ use Rattle.rl_syntax.specs.Meaning.{Means}
 use Rattle.rl_syntax.specs.SyntaxRefusals.{refusal_number, refusal_place}
 use Rattle.rl_syntax.proofs.Meant.{answer_to-from_means}
 use Rattle.rl_model.specs.declared.network.NetworkPlan.{NetworkPlan}
-use Rattle.rl_model.specs.Drafts.{network_of}
-use Rattle.rl_model.specs.Refusals.{Refusal, number_of, first_refusal}
-use Rattle.rl_model.proofs.Refusals.{first_refusal-found, first_refusal-accepted}
+use Rattle.rl_drafts.specs.Search.{Refusal, first_refusal}
+use Rattle.rl_drafts.proofs.Refusals.{first_refusal-found, first_refusal-accepted}
 use Rattle.relis.specs.Networks.{IsAcceptedAs, IsRefusedAs, unread, broken}
 use Rattle.relis.specs.declared.status.Status.{Status}
 use Rattle.relis.specs.declared.status.Status.TheVariants as status
@@ -19,7 +18,7 @@ use Rattle.relis.specs.declared.status.Status.TheVariants as status
 -- the answer to a draft, unless a rule is broken
 abbrev pub unless_broken : Option Refusal → Status
 unless_broken None = status.Done
-unless_broken (Some r) = status.Refused (number_of r.rule) r.place
+unless_broken (Some r) = status.Refused r.number r.place
 
 abbrev pub judged_answer : Result Draft SyntaxRefusal → Status
 judged_answer (Ok d) = unless_broken (first_refusal d)
@@ -38,5 +37,5 @@ judged-accepted text net h = judged_draft text h.draft None h.says (first_refusa
 
 pub judged-refused : (text : List ℕ) (n : ℕ) (p : Place) → IsRefusedAs text n p → judged text ≡ status.Refused n p
 judged-refused text n p (unread r means) = ap judged_answer (answer_to-from_means text (Err r) means)
-judged-refused text n p (broken d rule q says first) =
-    judged_draft text d (Some (record { rule = rule; place = q })) says (first_refusal-found d (record { rule = rule; place = q }) first)
+judged-refused text n p (broken d m q says first) =
+    judged_draft text d (Some (record { number = m; place = q })) says (first_refusal-found d (record { number = m; place = q }) first)

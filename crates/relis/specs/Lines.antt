@@ -45,10 +45,9 @@ refused_line number place = line_of (codes "refused" ∷ decimal number ∷ plac
 
 -- what `check` prints of an accepted network
 abbrev pub accepted_line : NetworkPlan → List ℕ
-accepted_line net = line_of (
-    codes "accepted"
-    ∷ codes "segments" ∷ decimal (length net.segments)
-    ∷ codes "boxes" ∷ decimal (length net.boxes)
-    ∷ codes "trains" ∷ decimal (length net.trains)
-    ∷ codes "nodes" ∷ decimal (2 * length net.boxes + 2 * length net.trains)
-    ∷ [])
+accepted_line net =
+    codes "accepted segments " ++ decimal (length net.segments)
+    ++ codes " boxes " ++ decimal (length net.boxes)
+    ++ codes " trains " ++ decimal (length net.trains)
+    ++ codes " nodes " ++ decimal (2 * length net.boxes + 2 * length net.trains)
+    ++ codes "\n"

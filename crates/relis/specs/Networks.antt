@@ -6,8 +6,8 @@ use Rattle.rl_syntax.specs.declared.refusal.SyntaxRefusal.{SyntaxRefusal}
 use Rattle.rl_syntax.specs.Meaning.{Means}
 use Rattle.rl_syntax.specs.SyntaxRefusals.{refusal_number, refusal_place}
 use Rattle.rl_model.specs.declared.network.NetworkPlan.{NetworkPlan}
-use Rattle.rl_model.specs.Drafts.{network_of}
-use Rattle.rl_model.specs.Refusals.{Rule, number_of, IsAccepted, IsFirstRefusal}
+use Rattle.rl_drafts.specs.Drafts.{network_of}
+use Rattle.rl_drafts.specs.Refusals.{IsAccepted, IsFirstRefusal}
 use Rattle.relis.specs.declared.judge.NetworkFault.{NetworkFault}
 use Rattle.relis.specs.declared.judge.NetworkFault.TheVariants as fault
 
@@ -21,8 +21,7 @@ pub record IsAcceptedAs (text : List ℕ) (net : NetworkPlan) : Type 0 where
 -- the number and the place are those of the text's first refusal: the text says no draft, or a draft that breaks a rule
 pub data IsRefusedAs (text : List ℕ) : ℕ → Place → Type 0 where
   unread : (r : SyntaxRefusal) → Means text (Err r) → IsRefusedAs text (refusal_number r) (refusal_place r)
-  broken : (d : Draft) (rule : Rule) (p : Place) → Means text (Ok d) → IsFirstRefusal d rule p →
-    IsRefusedAs text (number_of rule) p
+  broken : (d : Draft) (n : ℕ) (p : Place) → Means text (Ok d) → IsFirstRefusal d n p → IsRefusedAs text n p
 
 -- the fault is the first refusal of the text; want of memory says nothing of it
 abbrev pub IsFaultOf : List ℕ → NetworkFault → Type 0

@@ -1,13 +1,13 @@
 ghost use Rattle.std.specs.Prelude.{◌≡◌, ℕ, List, IfOk, IfErr, Ok, Err};
 ghost use Rattle.rl_base.specs.declared.draft.Draft.{Draft};
-ghost use Rattle.rl_model.specs.Refusals.{first_refusal};
+ghost use Rattle.rl_drafts.specs.Search.{first_refusal};
 ghost use Rattle.rl_net.specs.NetRefusals.{IsRefusal};
 ghost use Rattle.rl_syntax.specs.Answer.{UnlessMemory};
 ghost use Rattle.rl_syntax.specs.Meaning.{Means};
 ghost use Rattle.relis.specs.Networks.{IsAcceptedAs, IsFaultOf};
 
 use rl_base::Place;
-use rl_model::first_refusals;
+use rl_drafts::first_refusals;
 use rl_net::{NetRefusal, Network, check};
 use rl_syntax::{SyntaxRefusal, read_draft};
 use std::alloc::Global;
@@ -36,23 +36,13 @@ fn of_syntax(refusal: SyntaxRefusal) -> NetworkFault
 }
 
 /// The fault that a refusal of the draft is.
-fn of_network(refusal: NetRefusal) -> NetworkFault
-    ensures { (text : List ℕ) (d : Draft) → Means text (Ok d) → IsRefusal refusal (first_refusal d) →
+fn of_network(refusal: &NetRefusal) -> NetworkFault
+    ensures { (text : List ℕ) (d : Draft) → Means text (Ok d) → IsRefusal refusal.now (first_refusal d) →
         IsFaultOf text result }
 {
     match refusal {
-        NetRefusal::Count(place) => refused(5, place),
-        NetRefusal::Twice(place) => refused(6, place),
-        NetRefusal::ArmCount(place) => refused(7, place),
-        NetRefusal::NoSegment(place) => refused(8, place),
-        NetRefusal::SameBox(place) => refused(9, place),
-        NetRefusal::Ends(place) => refused(10, place),
-        NetRefusal::At(place) => refused(11, place),
-        NetRefusal::RouteShape(place) => refused(12, place),
-        NetRefusal::RouteName(place) => refused(13, place),
-        NetRefusal::RouteFit(place) => refused(14, place),
-        NetRefusal::StartShared(place) => refused(15, place),
         NetRefusal::NoMemory => NetworkFault::NoMemory,
+        _ => refused(refusal.number(), refusal.place()),
     }
 }
 
@@ -68,6 +58,6 @@ pub fn judge(alloc: Global, text: &[u8]) -> Result<Network, NetworkFault>
     };
     match check(alloc, draft) {
         Ok(net) => Ok(net),
-        Err(refusal) => Err(of_network(refusal)),
+        Err(refusal) => Err(of_network(&refusal)),
     }
 }

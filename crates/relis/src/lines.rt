@@ -1,4 +1,4 @@
-ghost use Rattle.std.specs.Prelude.{◌≡◌, ◌∷◌, ◌++◌, OnOk, IfOk, decimal};
+ghost use Rattle.std.specs.Prelude.{◌≡◌, ◌++◌, OnOk, IfOk, decimal};
 ghost use Rattle.rl_model.specs.Network.{IsNetwork};
 ghost use Rattle.relis.specs.Lines.{place_text, item_text, nested_text, usage_line, read_fault_line, refused_line, accepted_line};
 
@@ -95,12 +95,11 @@ pub fn refused(alloc: Global, number: u32, place: Place) -> Result<Out, NoMemory
     Ok(out)
 }
 
-/// Appends a word and a number, each after a space.
-fn put_count(out: &mut Out, word: &[u8], count: u32) -> Result<(), NoMemory>
-    ensures { OnOk result (out.new ≡ out.old ++ 32 ∷ word.now ++ 32 ∷ decimal count) }
+fn put_count(out: &mut Out, words: &[u8], count: u32) -> Result<(), NoMemory>
+    ensures { OnOk result (out.new ≡ out.old ++ words.now ++ decimal count) }
 {
-    out.word(word)?;
-    out.count(count)
+    out.text(words)?;
+    out.number(u64::from(count))
 }
 
 /// What `check` prints of an accepted network.
@@ -110,11 +109,10 @@ pub fn accepted(alloc: Global, net: &Network) -> Result<Out, NoMemory>
     let segments = net.segments();
     let layout = net.layout();
     let mut out = Out::new(alloc);
-    out.text(b"accepted")?;
-    put_count(&mut out, b"segments", segments)?;
-    put_count(&mut out, b"boxes", layout.boxes)?;
-    put_count(&mut out, b"trains", layout.trains)?;
-    put_count(&mut out, b"nodes", layout.nodes())?;
+    put_count(&mut out, b"accepted segments ", segments)?;
+    put_count(&mut out, b" boxes ", layout.boxes)?;
+    put_count(&mut out, b" trains ", layout.trains)?;
+    put_count(&mut out, b" nodes ", layout.nodes())?;
     out.text(b"\n")?;
     Ok(out)
 }

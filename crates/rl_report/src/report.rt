@@ -1,6 +1,7 @@
 ghost use Rattle.rl_model.specs.declared.moves.Move.{Move};
 ghost use Rattle.std.specs.Prelude.{◌≡◌, ◌<◌, ◌≤◌, [], ◌∷◌, ◌++◌, IfOk, OnOk, length, flat_map, decimal, slice_get, Some, ℕ};
-ghost use Rattle.rl_model.specs.Moves.{IsMoveOf, IsTrainOf, IsSegmentOf, IsBoxOf};
+ghost use Rattle.rl_model.specs.Network.{IsTrainOf, IsSegmentOf, IsBoxOf};
+ghost use Rattle.rl_model.specs.Moves.{IsMoveOf};
 ghost use Rattle.rl_model.specs.Reports.{IsReportOf};
 ghost use Rattle.rl_model.specs.ReportText.{report_text, move_line, outcome_line, outcome_lines, fate_word};
 

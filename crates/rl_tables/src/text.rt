@@ -1,9 +1,8 @@
 ghost use Rattle.std.specs.Prelude.{◌≡◌, ◌<◌, ◌∷◌, ◌++◌, OnOk, IfOk, decimal, slice_get, Some, ℕ, length, flat_map, ◌≤◌, IfSome};
-ghost use Rattle.rl_model.specs.Moves.{IsSegmentOf, IsBoxOf, IsTrainOf};
+ghost use Rattle.rl_model.specs.Network.{IsSegmentOf, IsBoxOf, IsTrainOf, IsNetwork, box_name};
 ghost use Rattle.rl_tables.specs.declared.table.StepRow.{StepRow};
 ghost use Rattle.rl_tables.specs.declared.table.BoxTable.{BoxTable};
 ghost use Rattle.rl_tables.specs.declared.table.TrainTable.{TrainTable};
-ghost use Rattle.rl_model.specs.Network.{IsNetwork, box_name};
 ghost use Rattle.rl_tables.specs.Tables.{IsBoxTable, IsTrainTable, AreTablesOf};
 ghost use Rattle.rl_tables.specs.Ranges.{IsRowOf};
 ghost use Rattle.rl_tables.specs.TablesText.{holder_word, arm_line, box_line, box_lines, step_line, step_lines, train_line, train_lines, tables_text};
