@@ -1,9 +1,11 @@
 -- From the answer to an order to what a call promises.
-use Rattle.std.proofs.Common.{◌≡◌, ◌≢◌, ℕ, ◌<◌, ◌≤◌, Bool, true, false, List, [], ◌∷◌, Contains, Option, Some, None, IfSome, IsSome, option_map, ◌⊎◌, inl, inr, refl, sym, ap, subst, arith, ◌∙◌}
+use Rattle.std.proofs.Common.{Result, Ok, Err, IfOk, ◌≡◌, ◌≢◌, ℕ, ◌<◌, ◌≤◌, Bool, true, false, List, [], ◌∷◌, Contains, Option, Some, None, IfSome, IsSome, option_map, ◌⊎◌, inl, inr, refl, sym, ap, subst, arith, ◌∙◌}
 use Rattle.std.specs.Str.{bytes_eq}
 use Rattle.std.specs.Io.KnownBytes.{Appends}
 use Rattle.std.proofs.lemmas.Option.{same_Some, none-some}
 use Rattle.std.proofs.lemmas.Slice.Eq.{bytes_eq-Decides}
+use Rattle.rl_base.specs.declared.memory.NoMemory.{NoMemory}
+use Rattle.relis.specs.declared.decide.Decision.{Decision}
 use Rattle.relis.specs.Answers.{IsAnswerOn, IsAnswerTo, AreTold, IsCarriedOut, IsNamed, NamedRose, NoneRose, LeadsTo}
 use Rattle.relis.specs.Calls.{Outside, IsWritten, HasCause}
 use Rattle.relis.specs.Orders.{order_of, network_file, files_of}
@@ -51,6 +53,15 @@ leads_on words held before now order status.ReadFault bytes text is none told an
 leads_on words held before now order status.WriteFault bytes text is none told answered = absurd answered
 leads_on words held before now order status.NoMemory bytes text is none told answered = absurd answered
 
+-- what was decided on a network text has its cause
+pub decided : (r : Result Decision NoMemory) (held : List ℕ → Option (List ℕ)) (before now : List ℕ → ℕ) (order : Order)
+    (bytes : List ℕ) → NoneRose before now → IfSome (held (network_file order)) (λ there. bytes ≡ there) →
+    IfOk r (λ d. IsAnswerOn order bytes d.status d.text) →
+    IfOk r (λ d. (words : List (List ℕ)) → order_of words ≡ Some order → LeadsTo words held before now d.status d.text)
+decided (Ok d) held before now order bytes none told answered =
+    λ words is. leads_on words held before now order d.status bytes d.text is none told answered
+decided (Err e) held before now order bytes none told answered = answered
+
 -- the whole text of an answer was written
 pub written_whole : (words : List (List ℕ)) (before now : Outside) (answer : Status) (text : List ℕ) →
     HasCause words before now answer text → Appends before.written now.written text → IsWritten words before now answer
@@ -84,7 +95,7 @@ answer_for held (Some order) = option_map judged (held (network_file order))
 
 at_told : (told : Option (List ℕ)) (bytes : List ℕ) (answer : Status) → IsSome told → IfSome told (λ there. bytes ≡ there) →
     judged bytes ≡ answer → option_map judged told ≡ Some answer
-at_told None bytes answer some is judgement = absurd some
+at_told None bytes answer some is judgement = absurd (cc)
 at_told (Some there) bytes answer some is judgement = ap Some (ap judged (sym is) ∙ judgement)
 
 at_order : (words : List (List ℕ)) (held : List ℕ → Option (List ℕ)) (o : Option Order) (answer : Status) →

@@ -1,4 +1,4 @@
--- What a call of the program promises of its status, of the files and of the sink, and the number with which it ends.
+-- What a call of the program promises of its status, of the files and of the sink.
 use Rattle.std.specs.Prelude.{◌≡◌, ◌≢◌, ℕ, ◌≤◌, ◌⊎◌, List, Option, IsSome}
 use Rattle.std.specs.Io.KnownBytes.{Appends}
 use Rattle.rl_outside.specs.Causes.{Rose, RoseOrFull}
@@ -51,22 +51,13 @@ pub record IsCall (words : List (List ℕ)) (before now : Outside) (result : Sta
   pub puts : result ≢ status.WriteFault → now.sink_faults ≡ before.sink_faults
   -- a fetch that failed is told, unless a put failed after it or memory ran out
   pub fetches : NamedRose words before.file_faults now.file_faults →
-    (result ≡ status.ReadFault) ⊎ (result ≡ status.WriteFault) ⊎ (result ≡ status.NoMemory)
+      (result ≡ status.ReadFault) ⊎ (result ≡ status.WriteFault) ⊎ (result ≡ status.NoMemory)
   -- where nothing fails and the files tell what they hold, it is the one answer to which they lead, or memory ran out
   pub complete : NothingFailed words before now → AllTold words before → (answer : Status) (text : List ℕ) →
-    HasCause words before before answer text → (result ≡ answer) ⊎ (result ≡ status.NoMemory)
+      HasCause words before before answer text → (result ≡ answer) ⊎ (result ≡ status.NoMemory)
   -- the files stay, and only those that the words name are fetched
   pub files_stay : (name : List ℕ) → now.held name ≡ before.held name
   pub others : (name : List ℕ) → (IsNamed words name → ⊥) → now.file_faults name ≡ before.file_faults name
   -- no count falls
   pub later : (name : List ℕ) → before.file_faults name ≤ now.file_faults name
   pub sink_later : before.sink_faults ≤ now.sink_faults
-
--- the number with which the program ends. 5 is left for words that the system doesn't give
-abbrev pub number_of : Status → ℕ
-number_of status.Done = 0
-number_of status.Usage = 1
-number_of status.ReadFault = 2
-number_of (status.Refused number place) = 3
-number_of status.WriteFault = 4
-number_of status.NoMemory = 6
