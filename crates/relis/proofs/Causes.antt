@@ -1,8 +1,8 @@
 -- From the answer to an order to what a call promises.
-use Rattle.std.proofs.Common.{Result, Ok, Err, IfOk, ◌≡◌, ◌≢◌, ℕ, ◌<◌, ◌≤◌, Bool, true, false, List, [], ◌∷◌, Contains, Option, Some, None, IfSome, IsSome, option_map, ◌⊎◌, inl, inr, refl, sym, ap, subst, arith, ◌∙◌}
+use Rattle.std.proofs.Common.{Result, Ok, Err, IfOk, ◌≡◌, ◌≢◌, ℕ, Bool, true, false, List, [], ◌∷◌, Option, Some, None, IfSome, IsSome, option_map, refl, sym, ap, subst, arith, ◌∙◌}
 use Rattle.std.specs.Str.{bytes_eq}
 use Rattle.std.specs.Io.KnownBytes.{Appends}
-use Rattle.std.proofs.lemmas.Option.{same_Some, none-some}
+use Rattle.std.proofs.lemmas.Option.{same_Some}
 use Rattle.std.proofs.lemmas.Slice.Eq.{bytes_eq-Decides}
 use Rattle.rl_base.specs.declared.memory.NoMemory.{NoMemory}
 use Rattle.relis.specs.declared.decide.Decision.{Decision}
@@ -102,7 +102,8 @@ at_order : (words : List (List ℕ)) (held : List ℕ → Option (List ℕ)) (o 
     order_of words ≡ o → answer_for held o ≡ Some answer → answer_for held (order_of words) ≡ Some answer
 at_order words held o answer is h = rw is h
 
-on_text : (held : List ℕ → Option (List ℕ)) (order : Order) (answer : Status) (bytes text : List ℕ) → IsAnswerOn order bytes answer text → judged bytes ≡ answer
+on_text : (held : List ℕ → Option (List ℕ)) (order : Order) (answer : Status) (bytes text : List ℕ) →
+    IsAnswerOn order bytes answer text → judged bytes ≡ answer
 on_text held order status.Done bytes text answered = judged-accepted bytes answered.0 answered.1
 on_text held order (status.Refused n p) bytes text answered = judged-refused bytes n p answered.0
 on_text held order status.Usage bytes text answered = absurd answered

@@ -57,7 +57,8 @@ AreTold held (name ∷ names) (bytes ∷ others) = IfSome (held name) (λ there.
 AreTold held _ _ = ⊥
 
 -- the order is carried out on what the files hold
-pub record IsCarriedOut (held : List ℕ → Option (List ℕ)) (order : Order) (answer : Status) (text : List ℕ) : Type 0 where
+pub record IsCarriedOut (held : List ℕ → Option (List ℕ)) (order : Order) (answer : Status) (text : List ℕ) :
+    Type 0 where
   pub contents : List (List ℕ)
   pub told : AreTold held (files_of order) contents
   pub answered : IsAnswerTo order contents answer text

@@ -1,7 +1,7 @@
 -- What a call of the program promises of its status, of the files and of the sink.
 use Rattle.std.specs.Prelude.{◌≡◌, ◌≢◌, ℕ, ◌≤◌, ◌⊎◌, List, Option, IsSome}
 use Rattle.std.specs.Io.KnownBytes.{Appends}
-use Rattle.rl_outside.specs.Causes.{Rose, RoseOrFull}
+use Rattle.rl_outside.specs.Causes.{RoseOrFull}
 use Rattle.rl_outside.specs.Sink.{AppendsPart}
 use Rattle.relis.specs.Answers.{LeadsTo, IsNamed, NamedRose}
 use Rattle.relis.specs.declared.status.Status.{Status}
