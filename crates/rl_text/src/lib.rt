@@ -6,12 +6,12 @@
 #![tactic(auto)]
 
 pub mod number;
-pub mod out;
+pub mod output;
 pub mod tokens;
 pub mod words;
 
 pub use number::read_number;
-pub use out::Out;
+pub use output::Out;
 pub use tokens::{TextLine, Tokens};
 pub use words::word_at;
 
