@@ -4,7 +4,6 @@
 //! network and the forms of the lines, and not how a report came about.
 #![tactic(auto)]
 
-pub mod lines;
 pub mod report;
 
 pub use report::report_text;

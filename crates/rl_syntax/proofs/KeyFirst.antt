@@ -10,7 +10,7 @@ use Rattle.rl_syntax.specs.KeyConditions.{missing, misfit, items_or_none, items_
 use Rattle.rl_syntax.specs.Network.{list_place, name_place, name_in, names_of, needed_names, box_of, box_in, boxes_of, train_of, train_in, trains_of, lists_of, draft_of}
 use Rattle.rl_syntax.specs.Reading.{Read, ◌>>=◌, needed, optional, each}
 use Rattle.rl_syntax.specs.Table.{has_other_key, has_format_one, table_with, text_at, array_at, optional_array}
-use Rattle.rl_syntax.specs.Values.{kind_named, side_of}
+use Rattle.rl_syntax.specs.Words.{kind_named, side_of}
 use Rattle.rl_syntax.proofs.Conditions.{or_else, first-append}
 use Rattle.toml.specs.Data.{Data, Items, no_items, item, Members, get_member, as_str, as_array}
 

@@ -3,12 +3,13 @@ use Rattle.std.proofs.Common.{◌≡◌, ℕ, codes, List, [], ◌∷◌, Option
 use Rattle.rl_base.specs.declared.draft.Draft.{Draft}
 use Rattle.rl_base.specs.declared.draft.DraftBox.{DraftBox}
 use Rattle.rl_base.specs.declared.draft.DraftTrain.{DraftTrain}
+use Rattle.rl_base.specs.Kind.{kind_word, side_word}
 use Rattle.rl_base.specs.declared.kind.Kind.{Kind}
 use Rattle.rl_base.specs.declared.kind.Kind.TheVariants.{Buffer, Joint, Point, Crossing}
 use Rattle.rl_base.specs.declared.kind.Side.{Side}
 use Rattle.rl_base.specs.declared.kind.Side.TheVariants.{Left, Right}
-use Rattle.rl_syntax.specs.Spelling.{kind_text, side_text, texts, SaysBox, SaysTrain, SayEach, HasItems, SaysDraft}
-use Rattle.rl_syntax.specs.Values.{kind_named, side_named}
+use Rattle.rl_syntax.specs.Spelling.{texts, SaysBox, SaysTrain, SayEach, HasItems, SaysDraft}
+use Rattle.rl_syntax.specs.Words.{kind_named, side_named}
 use Rattle.toml.specs.Data.{Data, string, integer, float, boolean, datetime, array, table, Items, no_items, item, Members, get_member}
 
 same_texts : (ts us : List (List ℕ)) → texts ts ≡ texts us → ts ≡ us
@@ -21,27 +22,29 @@ same_texts (t ∷ ts) (u ∷ us) h =
     let more = same_texts ts us tails in
     cc
 
-named_again : (k : Kind) → kind_named (kind_text k) ≡ Some k
+named_again : (k : Kind) → kind_named (kind_word k) ≡ Some k
+unfolding kind_named
 named_again Buffer = refl
 named_again Joint = refl
 named_again Point = refl
 named_again Crossing = refl
 
-same_kind : (k l : Kind) → kind_text k ≡ kind_text l → k ≡ l
+same_kind : (k l : Kind) → kind_word k ≡ kind_word l → k ≡ l
 same_kind k l h = let e : Some k ≡ Some l = sym (named_again k) ∙ ap kind_named h ∙ named_again l in cc
 
-side_again : (s : Side) → side_named (side_text s) ≡ Some s
+side_again : (s : Side) → side_named (side_word s) ≡ Some s
+unfolding side_named
 side_again Left = refl
 side_again Right = refl
 
-same_side : (s t : Side) → side_text s ≡ side_text t → s ≡ t
+same_side : (s t : Side) → side_word s ≡ side_word t → s ≡ t
 same_side s t h = let e : Some s ≡ Some t = sym (side_again s) ∙ ap side_named h ∙ side_again t in cc
 
-same_at : (o p : Option Side) → option_map (λ side. string (side_text side)) o ≡ option_map (λ side. string (side_text side)) p → o ≡ p
+same_at : (o p : Option Side) → option_map (λ side. string (side_word side)) o ≡ option_map (λ side. string (side_word side)) p → o ≡ p
 same_at None None h = refl
 same_at None (Some t) h = cc
 same_at (Some s) None h = cc
-same_at (Some s) (Some t) h = let e : side_text s ≡ side_text t = cc in ap Some (same_side s t e)
+same_at (Some s) (Some t) h = let e : side_word s ≡ side_word t = cc in ap Some (same_side s t e)
 
 box_parts : (b c : DraftBox) → b.name ≡ c.name → b.kind ≡ c.kind → b.arms ≡ c.arms → b.at ≡ c.at → b ≡ c
 box_parts b c name kind arms at =
@@ -65,8 +68,8 @@ draft_parts d e segments boxes trains = make d.segments e.segments segments d.bo
 same_box : (m : Members) (b c : DraftBox) → SaysBox m b → SaysBox m c → b ≡ c
 same_box m b c says also =
     let name : b.name ≡ c.name = (let e = sym says.name ∙ also.name in cc) in
-    let kind_texts : kind_text b.kind ≡ kind_text c.kind = (let e = sym says.kind ∙ also.kind in cc) in
-    let kind = same_kind b.kind c.kind kind_texts in
+    let kind_words : kind_word b.kind ≡ kind_word c.kind = (let e = sym says.kind ∙ also.kind in cc) in
+    let kind = same_kind b.kind c.kind kind_words in
     let arms_texts : texts b.arms ≡ texts c.arms = (let e = sym says.arms ∙ also.arms in cc) in
     let arms = same_texts b.arms c.arms arms_texts in
     let at = same_at b.at c.at (sym says.at ∙ also.at) in

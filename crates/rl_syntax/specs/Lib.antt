@@ -1,5 +1,6 @@
 pub mod Answer
 pub mod Condition
+pub mod Countable
 pub mod Document
 pub mod KeyConditions
 pub mod Meaning
@@ -7,5 +8,6 @@ pub mod NameConditions
 pub mod Network
 pub mod Reading
 pub mod Spelling
+pub mod SyntaxRefusals
 pub mod Table
-pub mod Values
+pub mod Words

@@ -10,7 +10,7 @@ use Rattle.rl_syntax.specs.declared.names.NameList.TheVariants as lists
 use Rattle.rl_syntax.specs.declared.keys.Keys.TheVariants as keys
 use Rattle.rl_syntax.specs.Reading.{Read, ◌>>=◌, needed, optional, each}
 use Rattle.rl_syntax.specs.Table.{has_other_key, has_format_one, table_with, text_at, array_at, optional_array}
-use Rattle.rl_syntax.specs.Values.{kind_named, side_of}
+use Rattle.rl_syntax.specs.Words.{kind_named, side_of}
 use Rattle.toml.specs.Data.{Data, Items, Members, get_member, as_str}
 
 -- the place of a list of names, and of a name in it

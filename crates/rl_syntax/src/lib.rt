@@ -15,7 +15,7 @@ mod table;
 #[cfg(test)]
 mod tests;
 mod trains;
-mod values;
+mod words;
 
-pub use read::{MAX_TEXT, read_draft};
+pub use read::read_draft;
 pub use refusal::SyntaxRefusal;

@@ -1,5 +1,6 @@
-ghost use Rattle.std.specs.Prelude.{◌≡◌};
+ghost use Rattle.std.specs.Prelude.{◌≡◌, IfOk};
 ghost use Rattle.toml.specs.View.{table_view};
+ghost use Rattle.rl_syntax.specs.Countable.{HasCountableLists};
 ghost use Rattle.rl_syntax.specs.Network.{lists_of, draft_of};
 ghost use Rattle.rl_syntax.specs.Reading.{Reads};
 
@@ -15,13 +16,14 @@ use toml::Table;
 
 #[tactic(auto, unfolding(crate::specs::Network::lists_of))]
 fn lists_of(alloc: Global, table: &Table) -> Result<Draft, SyntaxRefusal>
-    ensures { Reads result (lists_of (table_view table.now)) }
+    ensures reads { Reads result (lists_of (table_view table.now)) }
+    ensures countable { IfOk result HasCountableLists }
 {
-    let segments = optional_array(Place::Segments, value_at(table, "segments"))?;
+    let segments = optional_array(Place::Segments, value_at(table, "segments")).map_err(SyntaxRefusal::Key)?;
     let segments = names_of(alloc, NameList::Segments, segments)?;
-    let boxes = optional_array(Place::Boxes, value_at(table, "box"))?;
+    let boxes = optional_array(Place::Boxes, value_at(table, "box")).map_err(SyntaxRefusal::Key)?;
     let boxes = boxes_of(alloc, boxes)?;
-    let trains = optional_array(Place::Trains, value_at(table, "train"))?;
+    let trains = optional_array(Place::Trains, value_at(table, "train")).map_err(SyntaxRefusal::Key)?;
     let trains = trains_of(alloc, trains)?;
     Ok(Draft {
         segments,
@@ -33,7 +35,8 @@ fn lists_of(alloc: Global, table: &Table) -> Result<Draft, SyntaxRefusal>
 /// The draft that a document says, its names not yet tested.
 #[tactic(auto, unfolding(crate::specs::Network::draft_of))]
 pub(crate) fn draft_of(alloc: Global, table: &Table) -> Result<Draft, SyntaxRefusal>
-    ensures { Reads result (draft_of (table_view table.now)) }
+    ensures reads { Reads result (draft_of (table_view table.now)) }
+    ensures countable { IfOk result HasCountableLists }
 {
     if has_other_key(Keys::Network, table) {
         return Err(SyntaxRefusal::Key(Place::Top));

@@ -11,11 +11,9 @@ use crate::draft_names::test_draft;
 use crate::network::draft_of;
 use crate::refusal::SyntaxRefusal;
 use rl_base::Draft;
+use rl_base::limits::MAX_NETWORK_BYTES;
 use std::alloc::Global;
 use toml::Table;
-
-/// The greatest number of bytes that a network text may have.
-pub const MAX_TEXT: usize = 65_536;
 
 /// The table of the document that a text is.
 fn document_of(alloc: Global, text: &[u8]) -> Result<Table, SyntaxRefusal>
@@ -36,14 +34,14 @@ fn document_of(alloc: Global, text: &[u8]) -> Result<Table, SyntaxRefusal>
 #[tactic(auto, unfolding(crate::specs::Answer::answer_to))]
 fn answer_of(alloc: Global, text: &[u8]) -> Result<Draft, SyntaxRefusal>
     ensures answer { UnlessMemory result (result ≡ answer_to text.now) }
-    ensures too_long { 65536 < length text.now → result ≡ Err SyntaxRefusal.TooLong }
+    ensures too_long { MAX_NETWORK_BYTES < length text.now → result ≡ Err SyntaxRefusal.TooLong }
 {
-    if text.len() > MAX_TEXT {
+    if text.len() > MAX_NETWORK_BYTES {
         return Err(SyntaxRefusal::TooLong);
     }
     let table = document_of(alloc, text)?;
     let draft = draft_of(alloc, &table)?;
-    test_draft(&draft)?;
+    test_draft(&draft).map_err(SyntaxRefusal::BadName)?;
     Ok(draft)
 }
 
@@ -56,7 +54,7 @@ pub fn read_draft(alloc: Global, text: &[u8]) -> Result<Draft, SyntaxRefusal>
     // No other answer says what is so of the text.
     ensures exact { (other : Result Draft SyntaxRefusal) → Means text.now other → UnlessMemory result (result ≡ other) }
     // A text that is too long is refused before anything is read, whatever memory is left.
-    ensures too_long { 65536 < length text.now → result ≡ Err SyntaxRefusal.TooLong }
+    ensures too_long { MAX_NETWORK_BYTES < length text.now → result ≡ Err SyntaxRefusal.TooLong }
     // Each text of a draft that should be a name is one.
     ensures names { IfOk result HasNames }
 {
