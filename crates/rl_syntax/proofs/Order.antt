@@ -60,8 +60,8 @@ first-some from ((true, r) ∷ cs) to p a h =
     record {
       holds = (0, omega arith, ap (λ (x : Place). (true, x)) e);
       least = λ q k. in_cons (true, r) cs (true, q) k
-    (λ s. let t : r ≡ q = ap (λ (x : Condition). x.1) s in subst (λ (x : Place). IsNoLater p x) (sym e ∙ t) (IsNoLater-same p))
-    (λ s. subst (λ (x : Place). IsNoLater x q) e (ascends_least (place_key r) cs to q a.1 s));
+          (λ s. let t : r ≡ q = ap (λ (x : Condition). x.1) s in subst (λ (x : Place). IsNoLater p x) (sym e ∙ t) (IsNoLater-same p))
+          (λ s. subst (λ (x : Place). IsNoLater x q) e (ascends_least (place_key r) cs to q a.1 s));
     }
 first-some from ((false, r) ∷ cs) to p a h =
     let rest = first-some (place_key r) cs to p a.1 h in
@@ -156,16 +156,27 @@ unfolding in_box
 box_ascends i m =
     let at_side = misfit_ascends (4 ∷ i ∷ 3 ∷ []) (place.BoxSide i) side_of (get_member (codes "at") m) [] (4 ∷ (i + 1) ∷ []) (IsNoLater-same (place.BoxSide i)) (onward 4 i (3 ∷ []) []) in
     let at_arms = texts_ascend (lists.Arms i) (4 ∷ i ∷ 3 ∷ []) (λ j. within 4 i (2 ∷ j ∷ []) (3 ∷ []) refl) (items_at (codes "arms") m) in
-    let from_arms = ascends_from (4 ∷ i ∷ 2 ∷ []) (4 ∷ i ∷ 2 ∷ 0 ∷ []) (no_texts (lists.Arms i) (items_at (codes "arms") m)) (4 ∷ i ∷ 3 ∷ []) (within 4 i (2 ∷ []) (2 ∷ 0 ∷ []) refl) at_arms in
-    (within 4 i [] (0 ∷ []) refl, (within 4 i (0 ∷ []) (1 ∷ []) refl, (within 4 i (1 ∷ []) (2 ∷ []) refl,
-    ascends-append (4 ∷ i ∷ 2 ∷ []) (4 ∷ i ∷ 3 ∷ []) (4 ∷ (i + 1) ∷ []) (no_texts (lists.Arms i) (items_at (codes "arms") m)) _ from_arms at_side)))
+    let from_arms = ascends_from (4 ∷ i ∷ 2 ∷ []) (4 ∷ i ∷ 2 ∷ 0 ∷ []) (no_texts (lists.Arms i) (items_at (codes "arms") m)) (4 ∷ i ∷ 3 ∷ []) (within 4 i (2 ∷ []) (2 ∷ 0 ∷ []) refl) at_arms in (
+      within 4 i [] (0 ∷ []) refl,
+      (
+        within 4 i (0 ∷ []) (1 ∷ []) refl,
+        (
+          within 4 i (1 ∷ []) (2 ∷ []) refl,
+          ascends-append (4 ∷ i ∷ 2 ∷ []) (4 ∷ i ∷ 3 ∷ []) (4 ∷ (i + 1) ∷ []) (no_texts (lists.Arms i) (items_at (codes "arms") m)) _ from_arms at_side,
+        ),
+      ),
+    )
 
 train_ascends : (i : ℕ) (m : Members) → Ascends (place_key (place.TrainItem i)) (in_train i m) (place_key (place.TrainItem (i + 1)))
 unfolding in_train
 train_ascends i m =
-    let at_route = texts_ascend (lists.Route i) (5 ∷ (i + 1) ∷ []) (λ j. onward 5 i (1 ∷ j ∷ []) []) (items_at (codes "route") m) in
-    (within 5 i [] (0 ∷ []) refl, (within 5 i (0 ∷ []) (1 ∷ []) refl,
-    ascends_from (5 ∷ i ∷ 1 ∷ []) (5 ∷ i ∷ 1 ∷ 0 ∷ []) (no_texts (lists.Route i) (items_at (codes "route") m)) (5 ∷ (i + 1) ∷ []) (within 5 i (1 ∷ []) (1 ∷ 0 ∷ []) refl) at_route))
+    let at_route = texts_ascend (lists.Route i) (5 ∷ (i + 1) ∷ []) (λ j. onward 5 i (1 ∷ j ∷ []) []) (items_at (codes "route") m) in (
+      within 5 i [] (0 ∷ []) refl,
+      (
+        within 5 i (0 ∷ []) (1 ∷ []) refl,
+        ascends_from (5 ∷ i ∷ 1 ∷ []) (5 ∷ i ∷ 1 ∷ 0 ∷ []) (no_texts (lists.Route i) (items_at (codes "route") m)) (5 ∷ (i + 1) ∷ []) (within 5 i (1 ∷ []) (1 ∷ 0 ∷ []) refl) at_route,
+      ),
+    )
 
 boxes_ascend : (ds : Items) → Ascends (place_key (place.BoxItem 0)) (in_boxes ds) (place_key place.Trains)
 unfolding in_boxes
@@ -205,24 +216,31 @@ unfolding key_conditions
 keys_ascend m =
     let segments : List Condition = misfit place.Segments as_array (get_member (codes "segments") m) ∷ no_texts lists.Segments (items_at (codes "segments") m) in
     let boxes : List Condition = misfit place.Boxes as_array (get_member (codes "box") m) ∷ in_boxes (items_at (codes "box") m) in
-    let trains : List Condition = misfit place.Trains as_array (get_member (codes "train") m) ∷ in_trains (items_at (codes "train") m) in
-    (refl, (refl, ascends-append (2 ∷ []) (5 ∷ []) (6 ∷ []) (segments ++ boxes) trains
-    (ascends-append (2 ∷ []) (4 ∷ []) (5 ∷ []) segments boxes (segments_ascend m) (all_boxes_ascend m)) (all_trains_ascend m)))
+    let trains : List Condition = misfit place.Trains as_array (get_member (codes "train") m) ∷ in_trains (items_at (codes "train") m) in (
+      refl,
+      (
+        refl,
+        ascends-append (2 ∷ []) (5 ∷ []) (6 ∷ []) (segments ++ boxes) trains
+            (ascends-append (2 ∷ []) (4 ∷ []) (5 ∷ []) segments boxes (segments_ascend m) (all_boxes_ascend m)) (all_trains_ascend m),
+      ),
+    )
 
 -- and in a draft
 names_of_box_ascend : (i : ℕ) (b : DraftBox) → Ascends (place_key (place.BoxItem i)) (of_box i b) (place_key (place.BoxItem (i + 1)))
 unfolding of_box
-names_of_box_ascend i b =
-    (within 4 i [] (0 ∷ []) refl,
-    ascends_from (4 ∷ i ∷ 0 ∷ []) (4 ∷ i ∷ 2 ∷ 0 ∷ []) (no_names (lists.Arms i) b.arms) (4 ∷ (i + 1) ∷ []) (within 4 i (0 ∷ []) (2 ∷ 0 ∷ []) refl)
-    (names_ascend (lists.Arms i) (4 ∷ (i + 1) ∷ []) (λ j. onward 4 i (2 ∷ j ∷ []) []) b.arms))
+names_of_box_ascend i b = (
+  within 4 i [] (0 ∷ []) refl,
+  ascends_from (4 ∷ i ∷ 0 ∷ []) (4 ∷ i ∷ 2 ∷ 0 ∷ []) (no_names (lists.Arms i) b.arms) (4 ∷ (i + 1) ∷ []) (within 4 i (0 ∷ []) (2 ∷ 0 ∷ []) refl)
+      (names_ascend (lists.Arms i) (4 ∷ (i + 1) ∷ []) (λ j. onward 4 i (2 ∷ j ∷ []) []) b.arms),
+)
 
 names_of_train_ascend : (i : ℕ) (t : DraftTrain) → Ascends (place_key (place.TrainItem i)) (of_train i t) (place_key (place.TrainItem (i + 1)))
 unfolding of_train
-names_of_train_ascend i t =
-    (within 5 i [] (0 ∷ []) refl,
-    ascends_from (5 ∷ i ∷ 0 ∷ []) (5 ∷ i ∷ 1 ∷ 0 ∷ []) (no_names (lists.Route i) t.route) (5 ∷ (i + 1) ∷ []) (within 5 i (0 ∷ []) (1 ∷ 0 ∷ []) refl)
-    (names_ascend (lists.Route i) (5 ∷ (i + 1) ∷ []) (λ j. onward 5 i (1 ∷ j ∷ []) []) t.route))
+names_of_train_ascend i t = (
+  within 5 i [] (0 ∷ []) refl,
+  ascends_from (5 ∷ i ∷ 0 ∷ []) (5 ∷ i ∷ 1 ∷ 0 ∷ []) (no_names (lists.Route i) t.route) (5 ∷ (i + 1) ∷ []) (within 5 i (0 ∷ []) (1 ∷ 0 ∷ []) refl)
+      (names_ascend (lists.Route i) (5 ∷ (i + 1) ∷ []) (λ j. onward 5 i (1 ∷ j ∷ []) []) t.route),
+)
 
 pub draft_names_ascend : (d : Draft) → Ascends (place_key (place.Segment 0)) (name_conditions d) (6 ∷ [])
 unfolding name_conditions

@@ -22,7 +22,7 @@ same_texts (t ∷ ts) (u ∷ us) h =
     let more = same_texts ts us tails in
     cc
 
-named_again : (k : Kind) → kind_named (kind_word k) ≡ Some k
+pub named_again : (k : Kind) → kind_named (kind_word k) ≡ Some k
 unfolding kind_named
 named_again Buffer = refl
 named_again Joint = refl
@@ -32,7 +32,7 @@ named_again Crossing = refl
 same_kind : (k l : Kind) → kind_word k ≡ kind_word l → k ≡ l
 same_kind k l h = let e : Some k ≡ Some l = sym (named_again k) ∙ ap kind_named h ∙ named_again l in cc
 
-side_again : (s : Side) → side_named (side_word s) ≡ Some s
+pub side_again : (s : Side) → side_named (side_word s) ≡ Some s
 unfolding side_named
 side_again Left = refl
 side_again Right = refl

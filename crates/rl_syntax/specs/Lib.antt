@@ -2,6 +2,7 @@ pub mod Answer
 pub mod Condition
 pub mod Countable
 pub mod Document
+pub mod DraftTable
 pub mod KeyConditions
 pub mod Meaning
 pub mod NameConditions

@@ -16,6 +16,8 @@ mod table;
 mod tests;
 mod trains;
 mod words;
+mod write;
 
 pub use read::read_draft;
 pub use refusal::SyntaxRefusal;
+pub use write::write_draft;

@@ -19,11 +19,15 @@ fn lists_of(alloc: Global, table: &Table) -> Result<Draft, SyntaxRefusal>
     ensures reads { Reads result (lists_of (table_view table.now)) }
     ensures countable { IfOk result HasCountableLists }
 {
-    let segments = optional_array(Place::Segments, value_at(table, "segments")).map_err(SyntaxRefusal::Key)?;
+    let segments = optional_array(Place::Segments, value_at(table, "segments")).map_err(
+        SyntaxRefusal::Key,
+    )?;
     let segments = names_of(alloc, NameList::Segments, segments)?;
     let boxes = optional_array(Place::Boxes, value_at(table, "box")).map_err(SyntaxRefusal::Key)?;
     let boxes = boxes_of(alloc, boxes)?;
-    let trains = optional_array(Place::Trains, value_at(table, "train")).map_err(SyntaxRefusal::Key)?;
+    let trains = optional_array(Place::Trains, value_at(table, "train")).map_err(
+        SyntaxRefusal::Key,
+    )?;
     let trains = trains_of(alloc, trains)?;
     Ok(Draft {
         segments,
