@@ -8,9 +8,9 @@ use Rattle.rl_syntax.specs.Answer.{answer_to}
 use Rattle.rl_syntax.specs.Meaning.{Means}
 use Rattle.rl_syntax.proofs.Meant.{answer_means, answer_to-from_means}
 use Rattle.rl_model.specs.declared.network.NetworkPlan.{NetworkPlan}
-use Rattle.rl_model.specs.Drafts.{network_of}
-use Rattle.rl_model.specs.Refusals.{Refusal, number_of, first_refusal}
-use Rattle.rl_model.proofs.Refusals.{first_refusal-some, first_refusal-none, first_refusal-found, first_refusal-accepted}
+use Rattle.rl_drafts.specs.Drafts.{network_of}
+use Rattle.rl_drafts.specs.Search.{Refusal, first_refusal}
+use Rattle.rl_drafts.proofs.Refusals.{first_refusal-some, first_refusal-none, first_refusal-found, first_refusal-accepted}
 use Rattle.relis.specs.Judged.{Refused, refused_as, judged, judged_answer, unless_broken}
 use Rattle.relis.specs.Accepted.{IsAcceptedAs, IsRefusedAs, too_long, not_toml, key, bad_name, broken}
 
@@ -41,8 +41,8 @@ judged-accepted text net h =
 refused_draft : (text : List ℕ) (n : ℕ) (p : Place) (d : Draft) (o : Option Refusal) → Means text (Ok d) → first_refusal d ≡ o → unless_broken d o ≡ Err (refused_as n p) → IsRefusedAs text n p
 refused_draft text n p d None says first h = absurd (cc)
 refused_draft text n p d (Some r) says first h =
-    let same : refused_as (number_of r.rule) r.place ≡ refused_as n p = cc in
-    let found = broken d r.rule r.place says (first_refusal-some d r first) in
+    let same : refused_as r.number r.place ≡ refused_as n p = cc in
+    let found = broken d r.number r.place says (first_refusal-some d r first) in
     subst (λ (x : Refused). IsRefusedAs text x.number x.place) same found
 
 -- a refusal at one number and place, which are the judgement's
@@ -68,5 +68,5 @@ judged-refused text n p (too_long means) = ap judged_answer (answer_to-from_mean
 judged-refused text n p (not_toml means) = ap judged_answer (answer_to-from_means text (Err NotToml) means)
 judged-refused text n p (key q means) = ap judged_answer (answer_to-from_means text (Err (Key q)) means)
 judged-refused text n p (bad_name q means) = ap judged_answer (answer_to-from_means text (Err (BadName q)) means)
-judged-refused text n p (broken d rule q says first) =
-    judged_draft text d (Some (record { rule = rule; place = q })) says (first_refusal-found d (record { rule = rule; place = q }) first)
+judged-refused text n p (broken d m q says first) =
+    judged_draft text d (Some (record { number = m; place = q })) says (first_refusal-found d (record { number = m; place = q }) first)

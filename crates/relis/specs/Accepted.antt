@@ -6,8 +6,8 @@ use Rattle.rl_base.specs.declared.draft.Draft.{Draft}
 use Rattle.rl_syntax.specs.declared.refusal.SyntaxRefusal.TheVariants.{TooLong, NotToml, Key, BadName}
 use Rattle.rl_syntax.specs.Meaning.{Means}
 use Rattle.rl_model.specs.declared.network.NetworkPlan.{NetworkPlan}
-use Rattle.rl_model.specs.Drafts.{network_of}
-use Rattle.rl_model.specs.Refusals.{Rule, number_of, IsAccepted, IsFirstRefusal}
+use Rattle.rl_drafts.specs.Drafts.{network_of}
+use Rattle.rl_drafts.specs.Refusals.{IsAccepted, IsFirstRefusal}
 
 -- the text says a draft that breaks no rule, and the network is the draft's
 pub record IsAcceptedAs (text : List ℕ) (net : NetworkPlan) : Type 0 where
@@ -22,4 +22,4 @@ pub data IsRefusedAs (text : List ℕ) : ℕ → Place → Type 0 where
   not_toml : Means text (Err NotToml) → IsRefusedAs text 2 place.None
   key : (p : Place) → Means text (Err (Key p)) → IsRefusedAs text 3 p
   bad_name : (p : Place) → Means text (Err (BadName p)) → IsRefusedAs text 4 p
-  broken : (d : Draft) (rule : Rule) (p : Place) → Means text (Ok d) → IsFirstRefusal d rule p → IsRefusedAs text (number_of rule) p
+  broken : (d : Draft) (n : ℕ) (p : Place) → Means text (Ok d) → IsFirstRefusal d n p → IsRefusedAs text n p

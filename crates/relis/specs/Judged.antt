@@ -7,8 +7,8 @@ use Rattle.rl_syntax.specs.declared.refusal.SyntaxRefusal.{SyntaxRefusal}
 use Rattle.rl_syntax.specs.declared.refusal.SyntaxRefusal.TheVariants as syntax_refusal
 use Rattle.rl_syntax.specs.Answer.{answer_to}
 use Rattle.rl_model.specs.declared.network.NetworkPlan.{NetworkPlan}
-use Rattle.rl_model.specs.Drafts.{network_of}
-use Rattle.rl_model.specs.Refusals.{Refusal, number_of, first_refusal}
+use Rattle.rl_drafts.specs.Drafts.{network_of}
+use Rattle.rl_drafts.specs.Search.{Refusal, first_refusal}
 
 -- a refusal as it is printed
 pub record Refused : Type 0 where
@@ -21,7 +21,7 @@ refused_as number place = record { number = number; place = place }
 -- the network of a draft, unless a rule is broken
 abbrev pub unless_broken : Draft → Option Refusal → Result NetworkPlan Refused
 unless_broken d None = Ok (network_of d)
-unless_broken d (Some r) = Err (refused_as (number_of r.rule) r.place)
+unless_broken d (Some r) = Err (refused_as r.number r.place)
 
 -- refusals of the text before there is a draft. The reading of a text is never short of memory
 abbrev pub refused_text : SyntaxRefusal → Refused

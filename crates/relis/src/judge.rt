@@ -3,7 +3,7 @@ ghost use Rattle.relis.specs.Accepted.{IsAcceptedAs};
 ghost use Rattle.relis.specs.Refusals.{IsFaultOf, fault_of_syntax, fault_of_network};
 
 use rl_base::Place;
-use rl_model::first_refusals;
+use rl_drafts::first_refusals;
 use rl_net::{NetRefusal, Network, check};
 use rl_syntax::{SyntaxRefusal, read_draft};
 use std::alloc::Global;

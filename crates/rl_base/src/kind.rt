@@ -71,7 +71,7 @@ pub fn side_of(kind: Kind, x: Arm, y: Arm) -> Option<Side>
 }
 
 /// The word for the kind, in a network text and in what is printed.
-pub fn kind_word(kind: Kind) -> &'static [u8]
+pub fn kind_word<'a>(kind: Kind) -> &'a [u8]
     ensures { result.now ≡ kind_word kind }
 {
     match kind {
@@ -83,7 +83,7 @@ pub fn kind_word(kind: Kind) -> &'static [u8]
 }
 
 /// The word for the side, in a network text and in what is printed.
-pub fn side_word(side: Side) -> &'static [u8]
+pub fn side_word<'a>(side: Side) -> &'a [u8]
     ensures { result.now ≡ side_word side }
 {
     match side {

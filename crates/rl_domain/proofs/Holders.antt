@@ -3,14 +3,13 @@ use Rattle.std.proofs.Common.{◌≡◌, ℕ, true, false, slice_get, Option, So
 use Rattle.std.proofs.lemmas.Bool.Decides.{nat_tests}
 use Rattle.rl_base.specs.declared.ids.TrainId.{TrainId}
 use Rattle.rl_model.specs.declared.network.NetworkPlan.{NetworkPlan}
-use Rattle.rl_model.specs.Network.{arm_of}
+use Rattle.rl_model.specs.Network.{arm_of, IsTrainOf}
 use Rattle.rl_domain.specs.declared.tables.PathLock.{PathLock}
 use Rattle.rl_domain.specs.declared.tables.BoxState.{BoxState}
 use Rattle.rl_domain.specs.States.{is_lock, holder_at}
 use Rattle.rl_domain.proofs.Meanings.{lock_in_range}
 use Rattle.rl_domain.specs.Tables.{Tables, Fits, holder_of, lock_of}
 use Rattle.std.specs.Option.{option_map_or, option_map}
-use Rattle.rl_model.specs.Moves.{IsTrainOf}
 
 -- the holders in a box's state are trains of the network
 holder_in_state : (net : NetworkPlan) (tables : Tables) (b x : ℕ) (o : Option BoxState) (u : TrainId) → Fits net tables → slice_get tables.boxes b ≡ o → option_map_or (λ (state : BoxState). holder_at state x) o None ≡ Some u → IsTrainOf net u

@@ -2,8 +2,11 @@
 use Rattle.std.proofs.Common.{◌≡◌, ℕ, ◌==◌, Bool, true, false, not, ◌&&◌, ◌||◌, Option, Some, None, refl, sym, ap, ◌⊎◌, inl, inr}
 use Rattle.std.proofs.lemmas.Bool.{cases_eq, eq-eqb, eqb-true, ne_eqb, and_left, and_right, false≢true}
 use Rattle.rl_base.specs.declared.ids.TrainId.{TrainId}
+use Rattle.rl_base.specs.declared.ids.SegId.{SegId}
+use Rattle.rl_base.specs.declared.ids.BoxId.{BoxId}
+use Rattle.rl_model.specs.declared.moves.Move.TheVariants.{Reserve, Release, Lock}
 use Rattle.rl_model.specs.declared.network.NetworkPlan.{NetworkPlan}
-use Rattle.rl_model.specs.Moves.{AllHold, reserve_guards, release_guards, lock_guards, reserve, release, lock}
+use Rattle.rl_model.specs.Moves.{AllHold, guards, after}
 use Rattle.rl_domain.specs.declared.tables.PathLock.{PathLock}
 use Rattle.rl_domain.specs.States.{is_train, is_lock}
 use Rattle.rl_domain.specs.Tables.{Tables, world_of, holder_of, lock_of}
@@ -46,12 +49,12 @@ reserved net old new t s b x y z changes free =
       | inr other ↦ rw (changes.others y z other, off_place (x == t.0) y s z b other) (or_false _)
     ]
 
-pub reserve_world : (net : NetworkPlan) (old new : Tables) (t : TrainId) (s b : ℕ) → ChangesHolder net old new s b (Some t) → AllHold (reserve_guards net (world_of net old) s b) → world_of net new ≡ reserve (world_of net old) t.0 s b
+pub reserve_world : (net : NetworkPlan) (old new : Tables) (t : TrainId) (s : SegId) (b : BoxId) → ChangesHolder net old new s.0 b.0 (Some t) → AllHold (guards net (world_of net old) (Reserve t s b)) → world_of net new ≡ after (world_of net old) (Reserve t s b)
 reserve_world net old new t s b changes hold =
-    same_world (world_of net new) (reserve (world_of net old) t.0 s b)
+    same_world (world_of net new) (after (world_of net old) (Reserve t s b))
     (λ x y. rw changes.trains refl)
     (λ x z from to. rw changes.trains refl)
-    (λ x y z. reserved net old new t s b x y z changes (nobody _ hold.1.0))
+    (λ x y z. reserved net old new t s.0 b.0 x y z changes (nobody _ hold.1.0))
     (λ z x from to. ap (is_lock x from to) (changes.locks z))
     (λ z. changes.points z)
     (λ x. rw changes.trains refl)
@@ -69,12 +72,12 @@ released net old new t s b x y z changes held =
       | inr other ↦ rw (changes.others y z other, off_place (x == t) y s z b other) (and_true _)
     ]
 
-pub release_world : (net : NetworkPlan) (old new : Tables) (t s b : ℕ) → ChangesHolder net old new s b None → AllHold (release_guards net (world_of net old) t s b) → world_of net new ≡ release (world_of net old) t s b
+pub release_world : (net : NetworkPlan) (old new : Tables) (t : TrainId) (s : SegId) (b : BoxId) → ChangesHolder net old new s.0 b.0 None → AllHold (guards net (world_of net old) (Release t s b)) → world_of net new ≡ after (world_of net old) (Release t s b)
 release_world net old new t s b changes hold =
-    same_world (world_of net new) (release (world_of net old) t s b)
+    same_world (world_of net new) (after (world_of net old) (Release t s b))
     (λ x y. rw changes.trains refl)
     (λ x z from to. rw changes.trains refl)
-    (λ x y z. released net old new t s b x y z changes hold.1.0)
+    (λ x y z. released net old new t.0 s.0 b.0 x y z changes hold.1.0)
     (λ z x from to. ap (is_lock x from to) (changes.locks z))
     (λ z. changes.points z)
     (λ x. rw changes.trains refl)
@@ -87,12 +90,12 @@ locks old new b y u f g l changes none =
       | inr other ↦ rw (changes.others y other, ne_eqb y b other) (or_false _)
     ]
 
-pub lock_world : (net : NetworkPlan) (old new : Tables) (b : ℕ) (l : PathLock) → ChangesLock old new b (Some l) → AllHold (lock_guards net (world_of net old) l.t.0 b l.s.0 l.s2.0) → world_of net new ≡ lock (world_of net old) l.t.0 b l.s.0 l.s2.0
+pub lock_world : (net : NetworkPlan) (old new : Tables) (b : BoxId) (l : PathLock) → ChangesLock old new b.0 (Some l) → AllHold (guards net (world_of net old) (Lock l.t b l.s l.s2)) → world_of net new ≡ after (world_of net old) (Lock l.t b l.s l.s2)
 lock_world net old new b l changes hold =
-    same_world (world_of net new) (lock (world_of net old) l.t.0 b l.s.0 l.s2.0)
+    same_world (world_of net new) (after (world_of net old) (Lock l.t b l.s l.s2))
     (λ x y. rw changes.trains refl)
     (λ x z from to. rw changes.trains refl)
     (λ x y z. ap (is_train x) (changes.holders net y z))
-    (λ z x from to. locks old new b z x from to l changes (no_lock _ hold.1.0))
+    (λ z x from to. locks old new b.0 z x from to l changes (no_lock _ hold.1.0))
     (λ z. changes.points z)
     (λ x. rw changes.trains refl)

@@ -2,11 +2,11 @@ ghost use Rattle.std.specs.Prelude.{◌≡◌, ◌<◌, length, IsTrue, Some};
 ghost use Rattle.rl_base.specs.declared.ids.TrainId.{TrainId};
 ghost use Rattle.rl_domain.specs.declared.tables.PathLock.{PathLock};
 ghost use Rattle.rl_model.specs.declared.network.NetworkPlan.{NetworkPlan};
-ghost use Rattle.rl_model.specs.Network.{IsNetwork, has_end};
+ghost use Rattle.rl_model.specs.Network.{IsNetwork, has_end, IsTrainOf, IsSegmentOf, IsBoxOf};
 ghost use Rattle.rl_model.specs.Moves.{guards, after, AllHold};
 ghost use Rattle.rl_domain.specs.Tables.{world_of, made_of, Fits, IsLock};
 ghost use Rattle.rl_domain.specs.Changes.{ChangesHolder, ChangesLock, ChangesPoints, ChangesStanding, enters, leaves};
-ghost use Rattle.rl_model.specs.Moves.{IsTrainOf, IsSegmentOf, IsBoxOf, IsMoveOf};
+ghost use Rattle.rl_model.specs.Moves.{IsMoveOf};
 
 use crate::starts::points_of;
 use crate::tables::{Passage, PathLock, Standing};

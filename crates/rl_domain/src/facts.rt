@@ -1,9 +1,8 @@
 ghost use Rattle.std.specs.Prelude.{◌≡◌, ℕ, ◌<◌, ◌↔◌, ◌≢◌, IsTrue, false, true, length};
-ghost use Rattle.rl_model.specs.Network.{has_end, can_connect, connects, steps_of, IsStep};
+ghost use Rattle.rl_model.specs.Network.{has_end, can_connect, connects, steps_of, IsStep, IsTrainOf, IsSegmentOf, IsBoxOf};
 ghost use Rattle.rl_model.specs.World.{points_connect};
 ghost use Rattle.rl_model.specs.Moves.{IsFree, EachLockedPath, holds_ends};
 ghost use Rattle.rl_domain.specs.Tables.{world_of, holder_of, lock_of, locked_of, occupies_of, across_of, points_of, Fits};
-ghost use Rattle.rl_model.specs.Moves.{IsTrainOf, IsSegmentOf, IsBoxOf};
 
 use crate::tables::{PathLock, is_lock, is_lock_of, is_train};
 use crate::world::World;

@@ -1,7 +1,9 @@
 ghost use Rattle.std.specs.Prelude.{◌≡◌, ◌↔◌, IsTrue, IsOk, IfErr, MatchResult};
-ghost use Rattle.rl_model.specs.Moves.{guards, reserve_guards, release_guards, lock_guards, unlock_guards, throw_guards, settle_guards, enter_guards, leave_guards, refuse_guards, bar_guards};
+ghost use Rattle.rl_base.specs.declared.ids.TrainId.{TrainId};
+ghost use Rattle.rl_model.specs.declared.moves.Move.TheVariants as move;
+ghost use Rattle.rl_model.specs.Moves.{guards, IsMoveOf};
+ghost use Rattle.rl_model.specs.Network.{IsTrainOf, IsSegmentOf, IsBoxOf};
 ghost use Rattle.rl_domain.specs.Tables.{world_of, Fits};
-ghost use Rattle.rl_model.specs.Moves.{IsTrainOf, IsSegmentOf, IsBoxOf, IsMoveOf};
 ghost use Rattle.rl_domain.specs.Applies.{Tests};
 
 use crate::facts::{can_connect, has_end, points_connect};
@@ -23,7 +25,7 @@ impl World {
         requires fits { Fits net.now self.now }
         requires segment { IsSegmentOf net.now s }
         requires at { IsBoxOf net.now b }
-        ensures { Tests (reserve_guards net.now (world_of net.now self.now) s.0 b.0) result }
+        ensures { (t : TrainId) → Tests (guards net.now (world_of net.now self.now) (move.Reserve t s b)) result }
     {
         guard(1, has_end(net, s, b))?;
         guard(2, self.is_free(net, s, b))
@@ -34,7 +36,7 @@ impl World {
         requires train { IsTrainOf net.now t }
         requires segment { IsSegmentOf net.now s }
         requires at { IsBoxOf net.now b }
-        ensures { Tests (release_guards net.now (world_of net.now self.now) t.0 s.0 b.0) result }
+        ensures { Tests (guards net.now (world_of net.now self.now) (move.Release t s b)) result }
     {
         guard(3, has_end(net, s, b))?;
         guard(4, self.holds(net, t, s, b))?;
@@ -53,7 +55,7 @@ impl World {
         requires at { IsBoxOf net.now b }
         requires from { IsSegmentOf net.now s }
         requires to { IsSegmentOf net.now s2 }
-        ensures { Tests (lock_guards net.now (world_of net.now self.now) t.0 b.0 s.0 s2.0) result }
+        ensures { Tests (guards net.now (world_of net.now self.now) (move.Lock t b s s2)) result }
     {
         guard(6, s != s2 && has_end(net, s, b) && has_end(net, s2, b))?;
         guard(7, self.is_unlocked(b))?;
@@ -65,7 +67,7 @@ impl World {
         requires fits { Fits net.now self.now }
         requires train { IsTrainOf net.now t }
         requires at { IsBoxOf net.now b }
-        ensures { Tests (unlock_guards (world_of net.now self.now) t.0 b.0) result }
+        ensures { Tests (guards net.now (world_of net.now self.now) (move.Unlock t b)) result }
     {
         guard(10, self.has_lock_of(b, t))?;
         guard(11, self.is_off(t, b))
@@ -74,7 +76,7 @@ impl World {
     fn test_throw(&self, net: &Network, b: BoxId) -> Result<(), Guard>
         requires fits { Fits net.now self.now }
         requires at { IsBoxOf net.now b }
-        ensures { Tests (throw_guards net.now (world_of net.now self.now) b.0) result }
+        ensures { Tests (guards net.now (world_of net.now self.now) (move.Throw b)) result }
     {
         guard(12, self.has_lock(b) && self.points(b) != Points::Moving)?;
         guard(13, self.points_bar_lock(net, b))
@@ -83,7 +85,7 @@ impl World {
     fn test_settle(&self, net: &Network, b: BoxId, side: Side) -> Result<(), Guard>
         requires fits { Fits net.now self.now }
         requires at { IsBoxOf net.now b }
-        ensures { Tests (settle_guards net.now (world_of net.now self.now) b.0 side) result }
+        ensures { Tests (guards net.now (world_of net.now self.now) (move.Settle b side)) result }
     {
         guard(14, self.has_lock(b) && self.points(b) == Points::Moving)?;
         guard(15, self.side_fits_lock(net, b, side))
@@ -102,7 +104,7 @@ impl World {
         requires at { IsBoxOf net.now b }
         requires from { IsSegmentOf net.now s }
         requires to { IsSegmentOf net.now s2 }
-        ensures { Tests (enter_guards net.now (world_of net.now self.now) t.0 b.0 s.0 s2.0) result }
+        ensures { Tests (guards net.now (world_of net.now self.now) (move.Enter t b s s2)) result }
     {
         guard(16, self.is_next_step(net, t, b, s, s2))?;
         guard(17, self.occupies(t, s) && self.is_off_all(t))?;
@@ -114,7 +116,7 @@ impl World {
     fn test_leave(&self, net: &Network, t: TrainId, s: SegId) -> Result<(), Guard>
         requires fits { Fits net.now self.now }
         requires train { IsTrainOf net.now t }
-        ensures { Tests (leave_guards (world_of net.now self.now) t.0 s.0) result }
+        ensures { Tests (guards net.now (world_of net.now self.now) (move.Leave t s)) result }
     {
         guard(21, self.comes_from(t, s))
     }
@@ -130,7 +132,7 @@ impl World {
         requires fits { Fits net.now self.now }
         requires segment { IsSegmentOf net.now s }
         requires at { IsBoxOf net.now b }
-        ensures { Tests (refuse_guards net.now (world_of net.now self.now) t.0 s.0 b.0 u.0) result }
+        ensures { Tests (guards net.now (world_of net.now self.now) (move.Refuse t s b u)) result }
     {
         guard(22, has_end(net, s, b))?;
         guard(23, u != t && self.holds(net, u, s, b))
@@ -139,7 +141,7 @@ impl World {
     fn test_bar(&self, net: &Network, t: TrainId, b: BoxId, u: TrainId) -> Result<(), Guard>
         requires fits { Fits net.now self.now }
         requires at { IsBoxOf net.now b }
-        ensures { Tests (bar_guards (world_of net.now self.now) t.0 b.0 u.0) result }
+        ensures { Tests (guards net.now (world_of net.now self.now) (move.Bar t b u)) result }
     {
         guard(24, u != t && self.has_lock_of(b, u))
     }

@@ -1,7 +1,7 @@
 ghost use Rattle.std.specs.Prelude.{◌≡◌, option_map, IfNone, IfSome, IsTrue};
 ghost use Rattle.rl_model.specs.Moves.{IsFree, IsUnlocked, HasLockOf};
 ghost use Rattle.rl_domain.specs.Tables.{world_of, Fits};
-ghost use Rattle.rl_model.specs.Moves.{IsTrainOf, IsSegmentOf, IsBoxOf};
+ghost use Rattle.rl_model.specs.Network.{IsTrainOf, IsSegmentOf, IsBoxOf};
 
 use crate::tables::PathLock;
 use crate::world::World;

@@ -3,7 +3,7 @@ ghost use Rattle.rl_model.specs.Reports.{Rests};
 ghost use Rattle.rl_domain.specs.States.{is_train, holder_at};
 ghost use Rattle.rl_domain.specs.Rests.{is_at_arm, KeepsArms, KeepsOnly};
 ghost use Rattle.rl_domain.specs.Tables.{world_of, Fits};
-ghost use Rattle.rl_model.specs.Moves.{IsTrainOf, IsBoxOf};
+ghost use Rattle.rl_model.specs.Network.{IsTrainOf, IsBoxOf};
 
 use crate::tables::{BoxState, is_lock_of, is_train};
 use crate::world::World;

@@ -3,7 +3,7 @@ ghost use Rattle.std.specs.List.{list_any};
 ghost use Rattle.rl_model.specs.declared.network.NetworkPlan.{NetworkPlan};
 ghost use Rattle.rl_model.specs.Safety.{Collided, Derailed, IsKept};
 ghost use Rattle.rl_domain.specs.States.{meets, any_meet};
-ghost use Rattle.rl_model.specs.Moves.{IsTrainOf};
+ghost use Rattle.rl_model.specs.Network.{IsTrainOf};
 ghost use Rattle.rl_domain.specs.Rests.{IsOffRails};
 ghost use Rattle.rl_domain.specs.Tables.{world_of, Fits};
 

@@ -4,8 +4,8 @@ use Rattle.std.proofs.lemmas.List.{take-map, length-map}
 use Rattle.std.proofs.lemmas.Option.{slice_get-map, slice_get_read}
 use Rattle.rl_base.specs.declared.draft.DraftBox.{DraftBox}
 use Rattle.rl_base.specs.declared.draft.Draft.{Draft}
-use Rattle.rl_model.specs.Drafts.{number_in, box_names}
-use Rattle.rl_model.specs.Refusals.{is_twice}
+use Rattle.rl_drafts.specs.Drafts.{number_in, box_names}
+use Rattle.rl_drafts.specs.Refusals.{is_twice}
 
 -- where no name of the list is found, the first one isn't it, and none of the others is
 cond_none : (b : Bool) (o : Option ℕ) → cond b (Some 0) (option_map suc o) ≡ None → (b ≡ false) × (o ≡ None)

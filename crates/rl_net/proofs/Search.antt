@@ -3,7 +3,7 @@ use Rattle.std.proofs.Common.{◌≡◌, ℕ, zero, suc, ◌<◌, ◌≤◌, Boo
 use Rattle.std.proofs.lemmas.Bool.{cases_lt}
 use Rattle.std.specs.Option.{option_or}
 use Rattle.rl_base.specs.declared.place.Place.{Place}
-use Rattle.rl_model.specs.Refusals.{first_below}
+use Rattle.rl_drafts.specs.Search.{first_below}
 
 -- the place, if the test passes there
 abbrev pub tried : (ℕ → Bool) → (ℕ → Place) → ℕ → Option Place

@@ -1,6 +1,6 @@
 -- The tables beside a draft.
 use Rattle.rl_base.specs.declared.draft.Draft.{Draft}
-use Rattle.rl_model.specs.Drafts.{box_names}
+use Rattle.rl_drafts.specs.Drafts.{box_names}
 use Rattle.rl_net.specs.declared.table.NameTable.{NameTable}
 use Rattle.rl_net.specs.NameTables.{IsTableOf}
 

@@ -1,5 +1,4 @@
 pub mod Sizes
-pub mod Rows
 pub mod Ends
 pub mod NetRefusals
 pub mod NameTables

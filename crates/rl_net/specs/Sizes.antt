@@ -1,7 +1,7 @@
 -- How much a draft may hold once its counts have been looked at.
 use Rattle.std.specs.Prelude.{ℕ, ◌≤◌, length}
 use Rattle.rl_base.specs.declared.draft.Draft.{Draft}
-use Rattle.rl_model.specs.Refusals.{arms_at, route_length}
+use Rattle.rl_drafts.specs.Search.{arms_at, route_length}
 
 -- no more segments, boxes, trains and route places than a network has
 pub record HasFewItems (d : Draft) : Type 0 where

@@ -1,7 +1,7 @@
 ghost use Rattle.std.specs.Prelude.{◌≡◌, None, IfOk, OnOk, IfErr, IfNone, IfSome};
 ghost use Rattle.rl_base.specs.Draft.{HasNames};
-ghost use Rattle.rl_model.specs.Drafts.{network_of};
-ghost use Rattle.rl_model.specs.Refusals.{first_refusal};
+ghost use Rattle.rl_drafts.specs.Drafts.{network_of};
+ghost use Rattle.rl_drafts.specs.Search.{first_count, first_refusal, first_twice};
 ghost use Rattle.rl_net.specs.NetRefusals.{IsRefusal};
 ghost use Rattle.rl_net.specs.Sizes.{HasFewItems, HasFewArms};
 
@@ -18,7 +18,7 @@ use crate::sides::first_at;
 use crate::starts::first_start_shared;
 use crate::twice::first_twice;
 use rl_base::Draft;
-use rl_model::accepted_networks;
+use rl_drafts::accepted_networks;
 use std::alloc::Global;
 
 /// The first refusal of a draft.

@@ -1,8 +1,7 @@
 ghost use Rattle.std.specs.Prelude.{◌≡◌, ◌<◌, ◌≤◌, length, None};
 ghost use Rattle.rl_base.specs.declared.place.Place.TheVariants as place;
-ghost use Rattle.rl_model.specs.Refusals.{breaks, first_place, arms_at};
-ghost use Rattle.rl_model.specs.Refusals as rule;
-ghost use Rattle.rl_net.specs.Rows.{among_arms_of};
+ghost use Rattle.rl_drafts.specs.Refusals.{breaks};
+ghost use Rattle.rl_drafts.specs.Search.{among_arms, among_arms_of, among_boxes, arms_at};
 ghost use Rattle.rl_net.specs.Sizes.{HasFewItems, HasFewArms};
 
 use crate::index::DraftIndex;
@@ -11,7 +10,7 @@ use rl_base::{Draft, Place, arm_count};
 
 fn has_wrong_arm_count(draft: &Draft, i: usize) -> bool
     requires { i < length draft.now.boxes }
-    ensures { result ≡ breaks draft.now rule.ArmCount (place.BoxArms i) }
+    ensures { result ≡ breaks draft.now 7 (place.BoxArms i) }
 {
     let x = draft.boxes.at(i);
     x.arms.len() != arm_count(x.kind) as usize
@@ -20,7 +19,7 @@ fn has_wrong_arm_count(draft: &Draft, i: usize) -> bool
 /// The first box that has not its kind's number of arms.
 pub(crate) fn first_arm_count(draft: &Draft) -> Option<Place>
     requires { HasFewItems draft.now }
-    ensures place { result ≡ first_place draft.now rule.ArmCount }
+    ensures place { result ≡ among_boxes draft.now 7 place.BoxArms }
     ensures few { result ≡ None → HasFewArms draft.now }
 {
     for i in 0..draft.boxes.len() {
@@ -34,7 +33,7 @@ pub(crate) fn first_arm_count(draft: &Draft) -> Option<Place>
 fn is_no_segment(index: &DraftIndex<'_>, i: usize, j: usize) -> bool
     requires box_in { i < length index.now.boxes }
     requires arm_in { j < arms_at index.now i }
-    ensures { result ≡ breaks index.now rule.NoSegment (place.BoxArm i j) }
+    ensures { result ≡ breaks index.now 8 (place.BoxArm i j) }
 {
     let arm = index.draft().boxes.at(i).arms.at(j);
     index.segment_number(arm.bytes()).is_none()
@@ -45,7 +44,7 @@ fn first_strange_arm(index: &DraftIndex<'_>, i: usize) -> Option<Place>
     requires few { length index.now.boxes ≤ 128 }
     requires box_in { i < length index.now.boxes }
     requires arms { arms_at index.now i ≤ 4 }
-    ensures { result ≡ among_arms_of index.now rule.NoSegment i }
+    ensures { result ≡ among_arms_of index.now 8 i }
 {
     for j in 0..index.draft().boxes.at(i).arms.len() {
         if is_no_segment(index, i, j) {
@@ -59,7 +58,7 @@ fn first_strange_arm(index: &DraftIndex<'_>, i: usize) -> Option<Place>
 pub(crate) fn first_no_segment(index: &DraftIndex<'_>) -> Option<Place>
     requires items { HasFewItems index.now }
     requires arms { HasFewArms index.now }
-    ensures { result ≡ first_place index.now rule.NoSegment }
+    ensures { result ≡ among_arms index.now 8 }
 {
     for i in 0..index.draft().boxes.len() {
         if let Some(place) = first_strange_arm(index, i) {
@@ -72,7 +71,7 @@ pub(crate) fn first_no_segment(index: &DraftIndex<'_>) -> Option<Place>
 fn is_repeated(draft: &Draft, i: usize, j: usize) -> bool
     requires box_in { i < length draft.now.boxes }
     requires arm_in { j < arms_at draft.now i }
-    ensures { result ≡ breaks draft.now rule.SameBox (place.BoxArm i j) }
+    ensures { result ≡ breaks draft.now 9 (place.BoxArm i j) }
 {
     is_named_twice(draft.boxes.at(i).arms.as_slice(), j)
 }
@@ -82,7 +81,7 @@ fn first_repeated_arm(draft: &Draft, i: usize) -> Option<Place>
     requires few { length draft.now.boxes ≤ 128 }
     requires box_in { i < length draft.now.boxes }
     requires arms { arms_at draft.now i ≤ 4 }
-    ensures { result ≡ among_arms_of draft.now rule.SameBox i }
+    ensures { result ≡ among_arms_of draft.now 9 i }
 {
     for j in 0..draft.boxes.at(i).arms.len() {
         if is_repeated(draft, i, j) {
@@ -96,7 +95,7 @@ fn first_repeated_arm(draft: &Draft, i: usize) -> Option<Place>
 pub(crate) fn first_same_box(draft: &Draft) -> Option<Place>
     requires items { HasFewItems draft.now }
     requires arms { HasFewArms draft.now }
-    ensures { result ≡ first_place draft.now rule.SameBox }
+    ensures { result ≡ among_arms draft.now 9 }
 {
     for i in 0..draft.boxes.len() {
         if let Some(place) = first_repeated_arm(draft, i) {

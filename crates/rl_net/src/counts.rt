@@ -1,7 +1,7 @@
 ghost use Rattle.std.specs.Prelude.{◌≡◌, ◌<◌, ◌≤◌, length, None, IfNone};
 ghost use Rattle.rl_base.specs.declared.place.Place.TheVariants as place;
-ghost use Rattle.rl_model.specs.Refusals.{breaks, first_place, among_trains};
-ghost use Rattle.rl_model.specs.Refusals as rule;
+ghost use Rattle.rl_drafts.specs.Refusals.{breaks};
+ghost use Rattle.rl_drafts.specs.Search.{among_trains, first_count};
 ghost use Rattle.rl_net.specs.Sizes.{HasFewItems};
 
 use rl_base::{Draft, Place};
@@ -16,7 +16,7 @@ const MAX_ROUTE: usize = 129;
 
 fn is_route_too_long(draft: &Draft, i: usize) -> bool
     requires { i < length draft.now.trains }
-    ensures { result ≡ breaks draft.now rule.Count (place.TrainRoute i) }
+    ensures { result ≡ breaks draft.now 5 (place.TrainRoute i) }
 {
     draft.trains.at(i).route.len() > MAX_ROUTE
 }
@@ -24,7 +24,7 @@ fn is_route_too_long(draft: &Draft, i: usize) -> bool
 /// The first route that is too long.
 fn first_long_route(draft: &Draft) -> Option<Place>
     requires { length draft.now.trains ≤ 32 }
-    ensures { result ≡ among_trains draft.now rule.Count place.TrainRoute }
+    ensures { result ≡ among_trains draft.now 5 place.TrainRoute }
 {
     for i in 0..draft.trains.len() {
         if is_route_too_long(draft, i) {
@@ -36,7 +36,7 @@ fn first_long_route(draft: &Draft) -> Option<Place>
 
 /// The first place that has too many segments, boxes, trains or route places.
 pub(crate) fn first_count(draft: &Draft) -> Option<Place>
-    ensures place { result ≡ first_place draft.now rule.Count }
+    ensures place { result ≡ first_count draft.now }
     ensures few { result ≡ None → HasFewItems draft.now }
 {
     if draft.segments.len() > MAX_SEGMENTS {

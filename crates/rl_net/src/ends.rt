@@ -1,9 +1,9 @@
 ghost use Rattle.std.specs.Prelude.{◌≡◌, ℕ, ◌==◌, ◌<◌, ◌≤◌, List, [], ◌∷◌, ◌++◌, length, slice_index_or};
 ghost use Rattle.rl_base.specs.declared.place.Place.TheVariants as place;
 ghost use Rattle.rl_model.specs.declared.network.SegmentEnd.{SegmentEnd};
-ghost use Rattle.rl_model.specs.Drafts.{end_at, ends_of, ends_in_box};
-ghost use Rattle.rl_model.specs.Refusals.{breaks, first_place};
-ghost use Rattle.rl_model.specs.Refusals as rule;
+ghost use Rattle.rl_drafts.specs.Drafts.{end_at, ends_of, ends_in_box};
+ghost use Rattle.rl_drafts.specs.Refusals.{breaks};
+ghost use Rattle.rl_drafts.specs.Search.{among_segments};
 ghost use Rattle.rl_net.specs.Ends.{ends_kept};
 ghost use Rattle.rl_net.specs.Sizes.{HasFewItems, HasFewArms};
 
@@ -108,7 +108,7 @@ fn is_wrongly_ended(draft: &Draft, i: usize) -> bool
     requires items { HasFewItems draft.now }
     requires arms { HasFewArms draft.now }
     requires segment_in { i < length draft.now.segments }
-    ensures { result ≡ breaks draft.now rule.Ends (place.Segment i) }
+    ensures { result ≡ breaks draft.now 10 (place.Segment i) }
 {
     !ends_named(draft, draft.segments.at(i).bytes()).are_two()
 }
@@ -117,7 +117,7 @@ fn is_wrongly_ended(draft: &Draft, i: usize) -> bool
 pub(crate) fn first_ends(draft: &Draft) -> Option<Place>
     requires items { HasFewItems draft.now }
     requires arms { HasFewArms draft.now }
-    ensures { result ≡ first_place draft.now rule.Ends }
+    ensures { result ≡ among_segments draft.now 10 }
 {
     for i in 0..draft.segments.len() {
         if is_wrongly_ended(draft, i) {

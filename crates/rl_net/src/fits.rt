@@ -1,9 +1,8 @@
 ghost use Rattle.std.specs.Prelude.{◌≡◌, ◌+◌, ◌-◌, ◌<◌, ◌≤◌, length, slice_get, option_map, option_and_then, IfSome};
 ghost use Rattle.rl_base.specs.declared.place.Place.TheVariants as place;
-ghost use Rattle.rl_model.specs.Drafts.{number_in};
-ghost use Rattle.rl_model.specs.Refusals.{breaks, first_place, route_length, connects_names, fits_at};
-ghost use Rattle.rl_model.specs.Refusals as rule;
-ghost use Rattle.rl_net.specs.Rows.{among_places_of};
+ghost use Rattle.rl_drafts.specs.Drafts.{number_in};
+ghost use Rattle.rl_drafts.specs.Refusals.{breaks, connects_names, fits_at};
+ghost use Rattle.rl_drafts.specs.Search.{among_places_of, among_route_places, route_length};
 ghost use Rattle.rl_net.specs.Sizes.{HasFewItems, HasFewArms};
 
 use crate::index::DraftIndex;
@@ -59,7 +58,7 @@ fn is_unfit(index: &DraftIndex<'_>, i: usize, j: usize) -> bool
     requires train_in { i < length index.now.trains }
     requires places { route_length index.now i ≤ 129 }
     requires place_in { j < route_length index.now i }
-    ensures { result ≡ breaks index.now rule.RouteFit (place.RouteItem i j) }
+    ensures { result ≡ breaks index.now 14 (place.RouteItem i j) }
 {
     j % 2 == 1 && !fits(index, &index.draft().trains.at(i).route, j)
 }
@@ -70,7 +69,7 @@ fn first_unfit_place(index: &DraftIndex<'_>, i: usize) -> Option<Place>
     requires few { length index.now.trains ≤ 32 }
     requires train_in { i < length index.now.trains }
     requires places { route_length index.now i ≤ 129 }
-    ensures { result ≡ among_places_of index.now rule.RouteFit i }
+    ensures { result ≡ among_places_of index.now 14 i }
 {
     for j in 0..index.draft().trains.at(i).route.len() {
         if is_unfit(index, i, j) {
@@ -84,7 +83,7 @@ fn first_unfit_place(index: &DraftIndex<'_>, i: usize) -> Option<Place>
 pub(crate) fn first_route_fit(index: &DraftIndex<'_>) -> Option<Place>
     requires items { HasFewItems index.now }
     requires arms { HasFewArms index.now }
-    ensures { result ≡ first_place index.now rule.RouteFit }
+    ensures { result ≡ among_route_places index.now 14 }
 {
     for i in 0..index.draft().trains.len() {
         if let Some(place) = first_unfit_place(index, i) {

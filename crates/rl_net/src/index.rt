@@ -1,5 +1,5 @@
 ghost use Rattle.std.specs.Prelude.{◌≡◌, ◌<◌, length, IfOk, IfSome};
-ghost use Rattle.rl_model.specs.Drafts.{number_in, box_names};
+ghost use Rattle.rl_drafts.specs.Drafts.{number_in, box_names};
 
 use crate::table::NameTable;
 use rl_base::{Draft, NoMemory};

@@ -1,5 +1,5 @@
 ghost use Rattle.std.specs.Prelude.{◌≡◌, ◌≤◌, List, map, drop, length, IfOk};
-ghost use Rattle.rl_model.specs.Drafts.{segment_number, box_number, every_other, segment_of, box_of, train_of, network_of};
+ghost use Rattle.rl_drafts.specs.Drafts.{segment_number, box_number, every_other, segment_of, box_of, train_of, network_of};
 ghost use Rattle.rl_net.specs.Sizes.{HasFewItems, HasFewArms};
 
 use crate::ends::ends_named;

@@ -1,8 +1,7 @@
 ghost use Rattle.std.specs.Prelude.{◌≡◌, ◌<◌, ◌≤◌, length};
 ghost use Rattle.rl_base.specs.declared.place.Place.TheVariants as place;
-ghost use Rattle.rl_model.specs.Refusals.{breaks, first_place, route_length};
-ghost use Rattle.rl_model.specs.Refusals as rule;
-ghost use Rattle.rl_net.specs.Rows.{among_places_of};
+ghost use Rattle.rl_drafts.specs.Refusals.{breaks};
+ghost use Rattle.rl_drafts.specs.Search.{among_places_of, among_route_places, among_trains, route_length};
 ghost use Rattle.rl_net.specs.Sizes.{HasFewItems};
 
 use crate::index::DraftIndex;
@@ -10,7 +9,7 @@ use rl_base::{Draft, Place};
 
 fn is_even_route(draft: &Draft, i: usize) -> bool
     requires { i < length draft.now.trains }
-    ensures { result ≡ breaks draft.now rule.RouteShape (place.TrainRoute i) }
+    ensures { result ≡ breaks draft.now 12 (place.TrainRoute i) }
 {
     draft.trains.at(i).route.len() % 2 == 0
 }
@@ -18,7 +17,7 @@ fn is_even_route(draft: &Draft, i: usize) -> bool
 /// The first route that has an even number of names.
 pub(crate) fn first_route_shape(draft: &Draft) -> Option<Place>
     requires { HasFewItems draft.now }
-    ensures { result ≡ first_place draft.now rule.RouteShape }
+    ensures { result ≡ among_trains draft.now 12 place.TrainRoute }
 {
     for i in 0..draft.trains.len() {
         if is_even_route(draft, i) {
@@ -31,7 +30,7 @@ pub(crate) fn first_route_shape(draft: &Draft) -> Option<Place>
 fn is_wrong_name(index: &DraftIndex<'_>, i: usize, j: usize) -> bool
     requires train_in { i < length index.now.trains }
     requires place_in { j < route_length index.now i }
-    ensures { result ≡ breaks index.now rule.RouteName (place.RouteItem i j) }
+    ensures { result ≡ breaks index.now 13 (place.RouteItem i j) }
 {
     let name = index.draft().trains.at(i).route.at(j).bytes();
     if j % 2 == 0 {
@@ -46,7 +45,7 @@ fn first_wrong_name(index: &DraftIndex<'_>, i: usize) -> Option<Place>
     requires few { length index.now.trains ≤ 32 }
     requires train_in { i < length index.now.trains }
     requires places { route_length index.now i ≤ 129 }
-    ensures { result ≡ among_places_of index.now rule.RouteName i }
+    ensures { result ≡ among_places_of index.now 13 i }
 {
     for j in 0..index.draft().trains.at(i).route.len() {
         if is_wrong_name(index, i, j) {
@@ -59,7 +58,7 @@ fn first_wrong_name(index: &DraftIndex<'_>, i: usize) -> Option<Place>
 /// The first route place that should name a segment or a box and doesn't.
 pub(crate) fn first_route_name(index: &DraftIndex<'_>) -> Option<Place>
     requires { HasFewItems index.now }
-    ensures { result ≡ first_place index.now rule.RouteName }
+    ensures { result ≡ among_route_places index.now 13 }
 {
     for i in 0..index.draft().trains.len() {
         if let Some(place) = first_wrong_name(index, i) {

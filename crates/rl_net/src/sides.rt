@@ -1,14 +1,14 @@
 ghost use Rattle.std.specs.Prelude.{◌≡◌, ◌<◌, length};
 ghost use Rattle.rl_base.specs.declared.place.Place.TheVariants as place;
-ghost use Rattle.rl_model.specs.Refusals.{breaks, first_place};
-ghost use Rattle.rl_model.specs.Refusals as rule;
+ghost use Rattle.rl_drafts.specs.Refusals.{breaks};
+ghost use Rattle.rl_drafts.specs.Search.{among_boxes};
 ghost use Rattle.rl_net.specs.Sizes.{HasFewItems};
 
 use rl_base::{Draft, Kind, Place};
 
 fn has_wrong_side(draft: &Draft, i: usize) -> bool
     requires { i < length draft.now.boxes }
-    ensures { result ≡ breaks draft.now rule.At (place.BoxSide i) }
+    ensures { result ≡ breaks draft.now 11 (place.BoxSide i) }
 {
     let x = draft.boxes.at(i);
     match x.kind {
@@ -20,7 +20,7 @@ fn has_wrong_side(draft: &Draft, i: usize) -> bool
 /// The first point without a side, or other box with one.
 pub(crate) fn first_at(draft: &Draft) -> Option<Place>
     requires { HasFewItems draft.now }
-    ensures { result ≡ first_place draft.now rule.At }
+    ensures { result ≡ among_boxes draft.now 11 place.BoxSide }
 {
     for i in 0..draft.boxes.len() {
         if has_wrong_side(draft, i) {

@@ -2,9 +2,8 @@ ghost use Rattle.std.specs.Prelude.{◌≡◌, ◌<◌, ◌≤◌, false, length
 ghost use Rattle.std.specs.Option.{option_map_or};
 ghost use Rattle.std.specs.List.{list_any};
 ghost use Rattle.rl_base.specs.declared.place.Place.TheVariants as place;
-ghost use Rattle.rl_model.specs.Refusals.{breaks, first_place, route_length, is_start, starts_below};
-ghost use Rattle.rl_model.specs.Refusals as rule;
-ghost use Rattle.rl_net.specs.Rows.{among_places_of};
+ghost use Rattle.rl_drafts.specs.Refusals.{is_start, starts_below};
+ghost use Rattle.rl_drafts.specs.Search.{among_places_of, among_route_places};
 ghost use Rattle.rl_net.specs.Sizes.{HasFewItems};
 
 use rl_base::{Draft, DraftTrain, Place};
@@ -33,7 +32,7 @@ fn is_start_of_earlier(draft: &Draft, i: usize, name: &[u8]) -> bool
 fn shared_start(draft: &Draft, i: usize) -> Option<Place>
     requires few { length draft.now.trains ≤ 32 }
     requires train_in { i < length draft.now.trains }
-    ensures { result ≡ among_places_of draft.now rule.StartShared i }
+    ensures { result ≡ among_places_of draft.now 15 i }
 {
     let route = &draft.trains.at(i).route;
     if !route.is_empty() && is_start_of_earlier(draft, i, route.at(0).bytes()) {
@@ -46,7 +45,7 @@ fn shared_start(draft: &Draft, i: usize) -> Option<Place>
 /// The first route that begins as an earlier one does.
 pub(crate) fn first_start_shared(draft: &Draft) -> Option<Place>
     requires { HasFewItems draft.now }
-    ensures { result ≡ first_place draft.now rule.StartShared }
+    ensures { result ≡ among_route_places draft.now 15 }
 {
     for i in 0..draft.trains.len() {
         if let Some(place) = shared_start(draft, i) {

@@ -1,5 +1,5 @@
 ghost use Rattle.std.specs.Prelude.{◌≡◌, ℕ, List, map, IfOk};
-ghost use Rattle.rl_model.specs.Drafts.{number_in};
+ghost use Rattle.rl_drafts.specs.Drafts.{number_in};
 ghost use Rattle.rl_net.specs.NameTables.{IsTableOf};
 
 use crate::names::Named;

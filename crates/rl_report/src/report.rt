@@ -1,24 +1,16 @@
 ghost use Rattle.rl_model.specs.declared.moves.Move.{Move};
 ghost use Rattle.std.specs.Prelude.{◌≡◌, ◌<◌, ◌≤◌, [], ◌∷◌, ◌++◌, IfOk, OnOk, length, flat_map, decimal, slice_get, Some, ℕ};
-ghost use Rattle.rl_model.specs.Moves.{IsMoveOf, IsTrainOf, IsSegmentOf, IsBoxOf};
+ghost use Rattle.rl_model.specs.Network.{IsTrainOf, IsSegmentOf, IsBoxOf};
+ghost use Rattle.rl_model.specs.Moves.{IsMoveOf};
 ghost use Rattle.rl_model.specs.Reports.{IsReportOf};
-ghost use Rattle.rl_model.specs.ReportText.{report_text, move_line, outcome_line, outcome_lines, side_word, fate_word};
+ghost use Rattle.rl_model.specs.ReportText.{report_text, move_line, outcome_line, outcome_lines, fate_word};
 
 use crate::lines::put_line;
-use rl_base::{BoxId, NoMemory, SegId, Side, TrainId};
+use rl_base::{BoxId, NoMemory, SegId, TrainId, side_word};
 use rl_model::{Fate, Move, Outcome, Report};
 use rl_net::Network;
 use rl_text::Out;
 use std::alloc::Global;
-
-fn side_word<'a>(side: Side) -> &'a [u8]
-    ensures { result.now ≡ side_word side }
-{
-    match side {
-        Side::Left => b"left",
-        Side::Right => b"right",
-    }
-}
 
 fn fate_word(fate: Fate) -> &'static [u8]
     ensures { result.now ≡ fate_word fate }

@@ -1,6 +1,5 @@
 ghost use Rattle.std.specs.Prelude.{◌≡◌, ℕ, ◌<◌, ◌≤◌, IfOk, Some, length, slice_get, IsTrue};
-ghost use Rattle.rl_model.specs.Moves.{IsTrainOf, IsSegmentOf, IsBoxOf};
-ghost use Rattle.rl_model.specs.Network.{IsNetwork, steps_of, arm_of, has_end};
+ghost use Rattle.rl_model.specs.Network.{IsTrainOf, IsSegmentOf, IsBoxOf, IsNetwork, steps_of, arm_of, has_end};
 ghost use Rattle.rl_tables.specs.Tables.{IsListOf, IsBoxTable, IsOtherEnd, IsStepRow, IsTrainTable, AreTablesOf};
 
 use crate::line::Line;

@@ -1,41 +1,18 @@
 ghost use Rattle.std.specs.Prelude.{◌≡◌, ◌<◌, ◌∷◌, ◌++◌, OnOk, IfOk, decimal, slice_get, Some, ℕ, length, flat_map, ◌≤◌, IfSome};
-ghost use Rattle.rl_base.specs.declared.kind.Kind.{Kind};
-ghost use Rattle.rl_model.specs.Moves.{IsSegmentOf, IsBoxOf, IsTrainOf};
-ghost use Rattle.rl_model.specs.ReportText.{side_word};
+ghost use Rattle.rl_model.specs.Network.{IsSegmentOf, IsBoxOf, IsTrainOf, IsNetwork, box_name};
 ghost use Rattle.rl_tables.specs.declared.table.StepRow.{StepRow};
 ghost use Rattle.rl_tables.specs.declared.table.BoxTable.{BoxTable};
 ghost use Rattle.rl_tables.specs.declared.table.TrainTable.{TrainTable};
-ghost use Rattle.rl_model.specs.Network.{IsNetwork, box_name};
 ghost use Rattle.rl_tables.specs.Tables.{IsBoxTable, IsTrainTable, AreTablesOf};
 ghost use Rattle.rl_tables.specs.Ranges.{IsRowOf};
-ghost use Rattle.rl_tables.specs.TablesText.{kind_word, holder_word, arm_line, box_line, box_lines, step_line, step_lines, train_line, train_lines, tables_text};
+ghost use Rattle.rl_tables.specs.TablesText.{holder_word, arm_line, box_line, box_lines, step_line, step_lines, train_line, train_lines, tables_text};
 
 use crate::line::Line;
 use crate::table::{BoxTable, StepRow, TrainTable};
-use rl_base::{Arm, BoxId, Kind, NoMemory, SegId, Side};
+use rl_base::{Arm, BoxId, NoMemory, SegId, kind_word, side_word};
 use rl_net::Network;
 use rl_text::Out;
 use std::alloc::Global;
-
-fn kind_word(kind: Kind) -> &'static [u8]
-    ensures { result.now ≡ kind_word kind }
-{
-    match kind {
-        Kind::Buffer => b"buffer",
-        Kind::Joint => b"joint",
-        Kind::Point => b"point",
-        Kind::Crossing => b"crossing",
-    }
-}
-
-fn side_word(side: Side) -> &'static [u8]
-    ensures { result.now ≡ side_word side }
-{
-    match side {
-        Side::Left => b"left",
-        Side::Right => b"right",
-    }
-}
 
 /// Appends a space and the word.
 fn put_word(out: &mut Out, word: &[u8]) -> Result<(), NoMemory>

@@ -1,6 +1,6 @@
 use Rattle.std.proofs.Common.{◌≡◌, None, subst}
 use Rattle.rl_base.specs.declared.draft.Draft.{Draft}
-use Rattle.rl_model.specs.Refusals.{first_refusal}
+use Rattle.rl_drafts.specs.Search.{first_refusal}
 use Rattle.rl_net.proofs.acceptance.check.Goals as goal
 
 pub from_plan-requires : goal.from_plan-requires

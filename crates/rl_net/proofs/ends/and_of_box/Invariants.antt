@@ -1,6 +1,6 @@
 use Rattle.std.proofs.Common.{◌≡◌, List, ◌++◌, take}
 use Rattle.rl_model.specs.declared.network.SegmentEnd.{SegmentEnd}
-use Rattle.rl_model.specs.Drafts.{ends_in_box}
+use Rattle.rl_drafts.specs.Drafts.{ends_in_box}
 use Rattle.rl_net.specs.Ends.{ends_kept}
 use Rattle.rl_net.proofs.ends.and_of_box.Given as goal
 

@@ -1,5 +1,5 @@
 use Rattle.std.proofs.Common.{◌≡◌, take}
-use Rattle.rl_model.specs.Drafts.{ends_from}
+use Rattle.rl_drafts.specs.Drafts.{ends_from}
 use Rattle.rl_net.specs.Ends.{ends_kept}
 use Rattle.rl_net.proofs.ends.ends_named.Given as goal
 

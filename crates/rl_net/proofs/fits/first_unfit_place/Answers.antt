@@ -1,6 +1,7 @@
 use Rattle.std.proofs.Common.{arith, sym}
 use Rattle.rl_base.specs.declared.place.Place.TheVariants.{RouteItem}
-use Rattle.rl_model.specs.Refusals.{RouteFit, breaks, route_length}
+use Rattle.rl_drafts.specs.Refusals.{breaks}
+use Rattle.rl_drafts.specs.Search.{route_length}
 use Rattle.rl_net.proofs.Few.{route_length_train}
 use Rattle.rl_net.proofs.Search.{tried_found}
 use Rattle.rl_net.proofs.fits.first_unfit_place.Goals as goal
@@ -8,4 +9,4 @@ use Rattle.rl_net.proofs.fits.first_unfit_place.Goals as goal
 pub returns-then-is_unfit : goal.returns-then-is_unfit
 returns-then-is_unfit c =
     let d = c.args.index.now in
-    sym (tried_found (λ j. breaks d RouteFit (RouteItem c.args.i j)) (λ j. RouteItem c.args.i j) c.loop-j.j (route_length d c.args.i) c.loop-j.invariant (cc) (omega (arith, route_length_train d c.args.i _ (rw c.draft.ensures at c.at.ensures.there))))
+    sym (tried_found (λ j. breaks d 14 (RouteItem c.args.i j)) (λ j. RouteItem c.args.i j) c.loop-j.j (route_length d c.args.i) c.loop-j.invariant (cc) (omega (arith, route_length_train d c.args.i _ (rw c.draft.ensures at c.at.ensures.there))))

@@ -1,5 +1,5 @@
 use Rattle.std.proofs.Common.{◌≡◌, map, take}
-use Rattle.rl_model.specs.Drafts.{box_of}
+use Rattle.rl_drafts.specs.Drafts.{box_of}
 use Rattle.rl_net.proofs.plan.boxes_from.Given as goal
 
 abbrev pub invariant-loop-x : goal.invariant-loop-x

@@ -1,5 +1,5 @@
 use Rattle.std.proofs.Common.{map, drop, arith, sym, ap, ◌∙◌}
-use Rattle.rl_model.specs.Drafts.{box_number, every_other}
+use Rattle.rl_drafts.specs.Drafts.{box_number, every_other}
 use Rattle.rl_net.proofs.Growth.{every_other_step}
 use Rattle.rl_net.proofs.plan.route_boxes.Goals as goal
 

@@ -1,5 +1,5 @@
 use Rattle.std.proofs.Common.{◌≡◌, ◌-◌, ◌++◌, map, drop, length}
-use Rattle.rl_model.specs.Drafts.{box_number, every_other}
+use Rattle.rl_drafts.specs.Drafts.{box_number, every_other}
 use Rattle.rl_net.proofs.plan.route_boxes.Given as goal
 
 abbrev pub invariant-loop-k : goal.invariant-loop-k

@@ -1,5 +1,5 @@
 use Rattle.std.proofs.Common.{map, arith, sym, ap, ◌∙◌}
-use Rattle.rl_model.specs.Drafts.{segment_number, every_other}
+use Rattle.rl_drafts.specs.Drafts.{segment_number, every_other}
 use Rattle.rl_net.proofs.Growth.{every_other_step}
 use Rattle.rl_net.proofs.plan.route_segments.Goals as goal
 

@@ -1,5 +1,5 @@
 use Rattle.std.proofs.Common.{◌≡◌, map, take}
-use Rattle.rl_model.specs.Drafts.{segment_number}
+use Rattle.rl_drafts.specs.Drafts.{segment_number}
 use Rattle.rl_net.proofs.plan.segment_ids.Given as goal
 
 abbrev pub invariant-loop-name : goal.invariant-loop-name

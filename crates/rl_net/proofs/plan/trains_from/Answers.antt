@@ -1,6 +1,6 @@
 use Rattle.std.proofs.Common.{arith, sym, ap, length}
 use Rattle.rl_base.specs.declared.draft.Draft.{Draft}
-use Rattle.rl_model.specs.Drafts.{train_of}
+use Rattle.rl_drafts.specs.Drafts.{train_of}
 use Rattle.rl_net.proofs.Growth.{map_step}
 use Rattle.rl_net.proofs.plan.trains_from.Goals as goal
 

@@ -1,5 +1,5 @@
 use Rattle.std.proofs.Common.{◌≡◌, map, take}
-use Rattle.rl_model.specs.Drafts.{train_of}
+use Rattle.rl_drafts.specs.Drafts.{train_of}
 use Rattle.rl_net.proofs.plan.trains_from.Given as goal
 
 abbrev pub invariant-loop-i : goal.invariant-loop-i

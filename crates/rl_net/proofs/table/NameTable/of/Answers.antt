@@ -1,6 +1,6 @@
 use Rattle.std.proofs.Common.{◌≡◌, ℕ, cond, List, ◌+◌, ◌++◌, [], ◌∷◌, length, take, map, Option, Some, is_some, arith, sym, ap, ◌∙◌, bytes_eq}
 use Rattle.std.proofs.lemmas.Map.Text.{hash_map_updates_str}
-use Rattle.rl_model.specs.Drafts.{number_in}
+use Rattle.rl_drafts.specs.Drafts.{number_in}
 use Rattle.rl_net.proofs.Tables.{numbers_kept, numbers_added, names_more, names_so_far}
 use Rattle.rl_net.proofs.table.NameTable.of.Goals as goal
 use Rattle.rl_net.proofs.table.NameTable.of.Goals.{then-not-contains_key+in_ok-insert, else-not-contains_key}

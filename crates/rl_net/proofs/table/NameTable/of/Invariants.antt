@@ -1,6 +1,6 @@
 use Rattle.std.proofs.Common.{◌≡◌, ℕ, List, take, map, bytes_eq}
 use Rattle.std.specs.HashMap as hash
-use Rattle.rl_model.specs.Drafts.{number_in}
+use Rattle.rl_drafts.specs.Drafts.{number_in}
 use Rattle.rl_net.proofs.table.NameTable.of.Given as goal
 
 abbrev pub invariant-loop-i : goal.invariant-loop-i

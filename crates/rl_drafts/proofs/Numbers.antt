@@ -3,9 +3,9 @@ use Rattle.std.proofs.Common.{◌≡◌, ℕ, zero, suc, ◌<◌, Bool, true, fa
 use Rattle.std.proofs.lemmas.Bool.{both_ways, cases_order}
 use Rattle.std.proofs.lemmas.Option.{none-some, same_Some}
 use Rattle.std.proofs.lemmas.Slice.Eq.{bytes_eq-Decides}
-use Rattle.rl_model.specs.Drafts.{number_in}
-use Rattle.rl_model.specs.Refusals.{is_among, is_twice}
-use Rattle.rl_model.proofs.Lookups.{map_some, some_value, test_fails, item_before}
+use Rattle.rl_drafts.specs.Drafts.{number_in}
+use Rattle.rl_drafts.specs.Refusals.{is_among, is_twice}
+use Rattle.rl_drafts.proofs.Lookups.{map_some, some_value, test_fails, item_before}
 
 -- texts that pass the test are the same
 pub same_from_bytes_eq : (a b : List ℕ) → bytes_eq a b ≡ true → a ≡ b

@@ -1,5 +1,5 @@
-use Rattle.rl_model.proofs.Refusals.{first_refusal-some, first_refusal-found, first_refusal-none, first_refusal-accepted}
-use Rattle.rl_model.proofs.refusal_laws.first_refusals.Goals as goal
+use Rattle.rl_drafts.proofs.Refusals.{first_refusal-some, first_refusal-found, first_refusal-none, first_refusal-accepted}
+use Rattle.rl_drafts.proofs.laws.first_refusals.Goals as goal
 
 pub returns-clause-first : goal.returns-clause-first
 returns-clause-first c = first_refusal-some

@@ -3,8 +3,8 @@ use Rattle.std.proofs.Common.{◌≡◌, ℕ, zero, suc, ◌+◌, ◌<◌, Bool,
 use Rattle.std.proofs.lemmas.Option.{none-some, same_Some}
 use Rattle.rl_base.specs.declared.draft.DraftBox.{DraftBox}
 use Rattle.rl_model.specs.declared.network.SegmentEnd.{SegmentEnd}
-use Rattle.rl_model.specs.Drafts.{end_at, ends_in_box, ends_from}
-use Rattle.rl_model.proofs.Numbers.{AreDistinct, same_from_bytes_eq, bytes_eq_from_same}
+use Rattle.rl_drafts.specs.Drafts.{end_at, ends_in_box, ends_from}
+use Rattle.rl_drafts.proofs.Numbers.{AreDistinct, same_from_bytes_eq, bytes_eq_from_same}
 
 -- the end is one of these
 abbrev pub IsMember : SegmentEnd → List SegmentEnd → Type 0

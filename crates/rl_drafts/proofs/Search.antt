@@ -5,7 +5,7 @@ use Rattle.std.specs.Option.{option_or}
 use Rattle.rl_base.specs.declared.place.Place.{Place}
 use Rattle.rl_base.specs.Place.{IsNoLater}
 use Rattle.rl_base.proofs.PlaceOrder.{IsNoLater-same}
-use Rattle.rl_model.specs.Refusals.{first_below}
+use Rattle.rl_drafts.specs.Search.{first_below}
 
 -- p is the first of these places that passes the test
 pub record IsFirstPlace (test : Place → Bool) (Among : Place → Type 0) (p : Place) : Type 0 where

@@ -21,14 +21,15 @@ use Rattle.rl_model.specs.declared.network.Segment.{Segment}
 use Rattle.rl_model.specs.declared.network.SwitchBox.{SwitchBox}
 use Rattle.rl_model.specs.declared.network.Train.{Train}
 use Rattle.rl_model.specs.Network.{arm_at, arm_of, kind_of, joined, can_connect, segment_at, route_segment, route_box, StartsOn, IsStep, IsEndOf, IsSegment, IsBox, IsTrain, IsNetwork}
-use Rattle.rl_model.specs.Drafts.{number_in, box_names, train_names, segment_number, box_number, every_other, end_at, ends_of, segment_of, box_of, train_of, network_of}
-use Rattle.rl_model.specs.Refusals.{connects_names, box_named, first_refusal}
-use Rattle.rl_model.proofs.Lookups.{map_some, then_some, mapped_item, item_mapped, all_at}
-use Rattle.rl_model.proofs.Numbers.{AreDistinct, number_in-item, number_in-place}
-use Rattle.rl_model.proofs.Ends.{IsMember, AreRising, ends_from-sound, ends_from-complete, ends_from-rising, two_ends}
-use Rattle.rl_model.proofs.RouteNames.{every_other-item, every_other-odd, length-every_other, find-number}
-use Rattle.rl_model.proofs.Accepted.{IsArm, IsRoutePlace, IsSound, IsSound-from_accepted}
-use Rattle.rl_model.proofs.Refusals.{first_refusal-none}
+use Rattle.rl_drafts.specs.Drafts.{number_in, box_names, train_names, segment_number, box_number, every_other, end_at, ends_of, segment_of, box_of, train_of, network_of}
+use Rattle.rl_drafts.specs.Refusals.{connects_names, box_named}
+use Rattle.rl_drafts.specs.Search.{first_refusal}
+use Rattle.rl_drafts.proofs.Lookups.{map_some, then_some, mapped_item, item_mapped, all_at}
+use Rattle.rl_drafts.proofs.Numbers.{AreDistinct, number_in-item, number_in-place}
+use Rattle.rl_drafts.proofs.Ends.{IsMember, AreRising, ends_from-sound, ends_from-complete, ends_from-rising, two_ends}
+use Rattle.rl_drafts.proofs.RouteNames.{every_other-item, every_other-odd, length-every_other, find-number}
+use Rattle.rl_drafts.proofs.Accepted.{IsArm, IsRoutePlace, IsSound, IsSound-from_accepted}
+use Rattle.rl_drafts.proofs.Refusals.{first_refusal-none}
 
 -- where the lower end is at the box, that is the arm
 arm_at-low : (b i : ℕ) (g : Segment) → end_at b i ≡ g.low → arm_at b g ≡ Some i

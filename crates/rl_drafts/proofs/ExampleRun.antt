@@ -4,8 +4,8 @@ use Rattle.std.proofs.lemmas.Bool.{and_right, and_parts, false≢true, eqb-true}
 use Rattle.rl_model.specs.World.{start, starts_on}
 use Rattle.rl_model.specs.Moves.{holds_ends}
 use Rattle.rl_model.specs.Safety.{Guarded, IsKept, IsSafeRun}
-use Rattle.rl_model.specs.Drafts.{network_of}
-use Rattle.rl_model.specs.Examples.{one_train, eight_moves}
+use Rattle.rl_drafts.specs.Drafts.{network_of}
+use Rattle.rl_drafts.specs.Examples.{one_train, eight_moves}
 use Rattle.rl_model.proofs.Kept.{safe_from}
 
 -- only train 0 starts anywhere

@@ -2,8 +2,8 @@
 use Rattle.std.proofs.Common.{◌≡◌, ℕ, zero, suc, ◌+◌, ◌*◌, ◌≤◌, Bool, true, false, cond, List, [], ◌∷◌, length, map, drop, slice_get, find, bytes_eq, Some, option_map, refl, ◌∙◌, subst, arith}
 use Rattle.std.proofs.lemmas.Option.{none-some, same_Some}
 use Rattle.rl_base.specs.declared.draft.DraftBox.{DraftBox}
-use Rattle.rl_model.specs.Drafts.{number_in, every_other}
-use Rattle.rl_model.proofs.Lookups.{map_some, item_after_first}
+use Rattle.rl_drafts.specs.Drafts.{number_in, every_other}
+use Rattle.rl_drafts.proofs.Lookups.{map_some, item_after_first}
 
 -- the name at place k of them is the name at place 2k
 pub every_other-item : (xs : List (List ℕ)) (k : ℕ) → slice_get (every_other xs) k ≡ slice_get xs (2 * k)

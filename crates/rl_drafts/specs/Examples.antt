@@ -16,7 +16,7 @@ use Rattle.rl_model.specs.declared.moves.Move.{Move}
 use Rattle.rl_model.specs.declared.moves.Move.TheVariants.{Reserve, Release, Lock, Unlock, Throw, Settle, Enter, Leave, Refuse, Bar}
 use Rattle.rl_model.specs.declared.report.Fate.TheVariants.{Arrived}
 use Rattle.rl_model.specs.declared.report.Report.{Report}
-use Rattle.rl_model.specs.Refusals.{Rule, Refusal}
+use Rattle.rl_drafts.specs.Search.{Refusal}
 
 abbrev pub seg : ℕ → SegId
 seg n = record { 0 = n }
@@ -33,8 +33,8 @@ draft_box name kind arms at = record { name = name; kind = kind; arms = arms; at
 abbrev pub draft_train : List ℕ → List (List ℕ) → DraftTrain
 draft_train name route = record { name = name; route = route }
 
-abbrev pub refused : Rule → Place → Option Refusal
-refused rule place = Some (record { rule = rule; place = place })
+abbrev pub refused : ℕ → Place → Option Refusal
+refused number place = Some (record { number = number; place = place })
 
 -- the route from A through J1 to B
 abbrev pub one_step : List (List ℕ)
@@ -76,12 +76,16 @@ fork at route =
       trains = draft_train (codes "T1") route ∷ [];
     }
 
--- the eight moves of the one train's one step
+-- the lock for the one train's one step
+abbrev pub first_lock : Move
+first_lock = Lock (train 0) (switch_box 1) (seg 0) (seg 1)
+
+-- the eight moves of that step
 abbrev pub eight_moves : List Move
 eight_moves =
     Reserve (train 0) (seg 1) (switch_box 1)
     ∷ Reserve (train 0) (seg 1) (switch_box 2)
-    ∷ Lock (train 0) (switch_box 1) (seg 0) (seg 1)
+    ∷ first_lock
     ∷ Enter (train 0) (switch_box 1) (seg 0) (seg 1)
     ∷ Leave (train 0) (seg 0)
     ∷ Unlock (train 0) (switch_box 1)
