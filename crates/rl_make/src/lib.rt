@@ -9,3 +9,6 @@ pub mod station;
 pub mod train;
 
 pub use ring::make_draft;
+
+#[cfg(test)]
+mod tests;

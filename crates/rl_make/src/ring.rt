@@ -9,11 +9,8 @@ use rl_base::limits::MAX_MAKE;
 use rl_base::{Draft, DraftBoxes, DraftTrains, Names, NoMemory};
 use std::alloc::Global;
 
-/// The ring of `n` stations with a train at each.
-pub fn make_draft(alloc: Global, n: u32) -> Result<Draft, NoMemory>
-    requires some { 1 ≤ n }
-    requires few { n ≤ MAX_MAKE }
-    ensures made { IfOk result (λ draft. draft ≡ ring n) }
+fn ring_of(alloc: Global, n: u32) -> Result<Draft, NoMemory>
+    ensures { IfOk result (λ draft. draft ≡ ring n) }
 {
     let mut segments = Names::new(alloc);
     let mut boxes = DraftBoxes::new(alloc);
@@ -28,4 +25,16 @@ pub fn make_draft(alloc: Global, n: u32) -> Result<Draft, NoMemory>
         boxes,
         trains,
     })
+}
+
+/// The ring of `n` stations with a train at each.
+pub fn make_draft(alloc: Global, n: u32) -> Result<Draft, NoMemory>
+    requires some { 1 ≤ n }
+    requires few { n ≤ MAX_MAKE }
+    ensures made { IfOk result (λ draft. draft ≡ ring n) }
+    // Each text of it that should be a name is one, and it breaks no rule.
+    ensures names { IfOk result HasNames }
+    ensures accepted { IfOk result IsAccepted }
+{
+    ring_of(alloc, n)
 }

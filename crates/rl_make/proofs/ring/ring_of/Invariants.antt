@@ -1,6 +1,6 @@
 use Rattle.std.proofs.Common.{◌≡◌, [], ◌∷◌}
 use Rattle.rl_make.specs.Ring.{each, segments_of, boxes_of, train_of}
-use Rattle.rl_make.proofs.ring.make_draft.Given as goal
+use Rattle.rl_make.proofs.ring.ring_of.Given as goal
 
 -- the stations below i are there
 abbrev pub invariant-loop-i : goal.invariant-loop-i
