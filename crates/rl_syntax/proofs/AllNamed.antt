@@ -12,7 +12,7 @@ use Rattle.rl_base.specs.declared.place.Place.TheVariants.{BoxName, TrainName}
 use Rattle.rl_syntax.proofs.Conditions.{or_else, first-append}
 use Rattle.rl_syntax.specs.Condition.{Condition, first, of_list}
 use Rattle.rl_syntax.specs.NameConditions.{no_name, no_names, of_box, of_train, name_conditions}
-use Rattle.rl_syntax.specs.Network.{name_place}
+use Rattle.rl_syntax.specs.DraftReading.{name_place}
 use Rattle.rl_syntax.specs.declared.names.NameList.{NameList}
 use Rattle.rl_syntax.specs.declared.names.NameList.TheVariants.{Segments, Arms, Route}
 

@@ -7,7 +7,7 @@ use Rattle.rl_syntax.specs.declared.names.NameList.TheVariants as lists
 use Rattle.rl_syntax.specs.declared.keys.Keys.TheVariants as keys
 use Rattle.rl_syntax.specs.Condition.{Condition, first}
 use Rattle.rl_syntax.specs.KeyConditions.{missing, misfit, items_or_none, items_at, of_items, no_texts, in_table, in_box, in_train, in_boxes, in_trains, key_conditions}
-use Rattle.rl_syntax.specs.Network.{list_place, name_place, name_in, names_of, needed_names, box_of, box_in, boxes_of, train_of, train_in, trains_of, lists_of, draft_of}
+use Rattle.rl_syntax.specs.DraftReading.{list_place, name_place, name_in, names_of, needed_names, box_of, box_in, boxes_of, train_of, train_in, trains_of, lists_of, draft_of}
 use Rattle.rl_syntax.specs.Reading.{Read, ◌>>=◌, needed, optional, each}
 use Rattle.rl_syntax.specs.Table.{has_other_key, has_format_one, table_with, text_at, array_at, optional_array}
 use Rattle.rl_syntax.specs.Words.{kind_named, side_of}

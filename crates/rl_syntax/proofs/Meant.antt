@@ -13,7 +13,7 @@ use Rattle.rl_syntax.specs.Document.{document}
 use Rattle.rl_syntax.specs.Meaning.{IsDocument, HasDraft, Means}
 use Rattle.rl_syntax.specs.KeyConditions.{key_conditions}
 use Rattle.rl_syntax.specs.NameConditions.{name_conditions}
-use Rattle.rl_syntax.specs.Network.{draft_of}
+use Rattle.rl_syntax.specs.DraftReading.{draft_of}
 use Rattle.rl_syntax.specs.Reading.{Read}
 use Rattle.rl_syntax.specs.declared.refusal.SyntaxRefusal.{SyntaxRefusal}
 use Rattle.rl_syntax.specs.declared.refusal.SyntaxRefusal.TheVariants.{TooLong, NotToml, Key, BadName, NoMemory}

@@ -17,7 +17,7 @@ use Rattle.rl_syntax.specs.declared.keys.Keys.TheVariants as keys
 use Rattle.rl_syntax.specs.Condition.{Condition, HoldsAt, NoneHolds, IsFirstPlace, first, of_list}
 use Rattle.rl_syntax.specs.KeyConditions.{missing, misfit, items_at, of_items, no_texts, in_table, in_box, in_train, in_boxes, in_trains, key_conditions}
 use Rattle.rl_syntax.specs.NameConditions.{no_name, no_names, of_box, of_train, name_conditions}
-use Rattle.rl_syntax.specs.Network.{name_place}
+use Rattle.rl_syntax.specs.DraftReading.{name_place}
 use Rattle.rl_syntax.specs.Table.{table_with}
 use Rattle.rl_syntax.specs.Words.{side_of}
 use Rattle.toml.specs.Data.{Data, Items, no_items, item, Members, get_member, as_str, as_array}

@@ -12,7 +12,7 @@ use Rattle.rl_syntax.specs.declared.names.NameList.TheVariants as lists
 use Rattle.rl_syntax.specs.DraftTable.{box_table, train_table, tables, draft_table}
 use Rattle.rl_syntax.specs.KeyConditions.{key_conditions}
 use Rattle.rl_syntax.specs.Meaning.{Means}
-use Rattle.rl_syntax.specs.Network.{name_in, names_of, box_of, box_in, boxes_of, train_of, train_in, trains_of, lists_of, draft_of}
+use Rattle.rl_syntax.specs.DraftReading.{name_in, names_of, box_of, box_in, boxes_of, train_of, train_in, trains_of, lists_of, draft_of}
 use Rattle.rl_syntax.specs.Reading.{Read, each}
 use Rattle.rl_syntax.specs.Spelling.{texts}
 use Rattle.rl_syntax.specs.Table.{is_known}

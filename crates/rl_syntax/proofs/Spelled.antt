@@ -15,7 +15,7 @@ use Rattle.rl_syntax.specs.declared.keys.Keys.{Keys}
 use Rattle.rl_syntax.specs.declared.names.NameList.{NameList}
 use Rattle.rl_syntax.specs.declared.names.NameList.TheVariants as lists
 use Rattle.rl_syntax.specs.declared.keys.Keys.TheVariants as keys
-use Rattle.rl_syntax.specs.Network.{list_place, name_place, name_in, names_of, needed_names, box_of, box_in, boxes_of, train_of, train_in, trains_of, lists_of, draft_of}
+use Rattle.rl_syntax.specs.DraftReading.{list_place, name_place, name_in, names_of, needed_names, box_of, box_in, boxes_of, train_of, train_in, trains_of, lists_of, draft_of}
 use Rattle.rl_syntax.specs.Reading.{Read, ◌>>=◌, needed, optional, each}
 use Rattle.rl_syntax.specs.Spelling.{texts, SaysBox, SaysTrain, SayEach, HasItems, SaysDraft}
 use Rattle.rl_syntax.specs.Table.{has_other_key, has_format_one, known_table, table_with, text_at, array_at, optional_array}

@@ -6,7 +6,7 @@ use Rattle.rl_syntax.specs.declared.names.NameList.{NameList}
 use Rattle.rl_syntax.specs.declared.names.NameList.TheVariants as lists
 use Rattle.rl_syntax.specs.declared.keys.Keys.TheVariants as keys
 use Rattle.rl_syntax.specs.Condition.{Condition}
-use Rattle.rl_syntax.specs.Network.{name_place}
+use Rattle.rl_syntax.specs.DraftReading.{name_place}
 use Rattle.rl_syntax.specs.Table.{has_other_key, has_format_one, table_with, text_at, array_at}
 use Rattle.rl_syntax.specs.Words.{kind_named, side_of}
 use Rattle.toml.specs.Data.{Data, Items, no_items, item, Members, get_member, as_str, as_array}

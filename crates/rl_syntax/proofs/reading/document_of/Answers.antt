@@ -3,7 +3,7 @@ use Rattle.std.proofs.lemmas.Bool.{false≢true}
 use Rattle.std.proofs.lemmas.Str.{is_utf8-from_IsUtf8}
 use Rattle.rl_syntax.specs.Document.{document}
 use Rattle.rl_syntax.proofs.Document.{document-none}
-use Rattle.rl_syntax.proofs.read.document_of.Goals as goal
+use Rattle.rl_syntax.proofs.reading.document_of.Goals as goal
 
 pub returns-in-Ok : goal.returns-in-Ok
 unfolding document

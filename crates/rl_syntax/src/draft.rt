@@ -1,7 +1,7 @@
 ghost use Rattle.std.specs.Prelude.{◌≡◌, IfOk};
 ghost use Rattle.toml.specs.View.{table_view};
 ghost use Rattle.rl_syntax.specs.Countable.{HasCountableLists};
-ghost use Rattle.rl_syntax.specs.Network.{lists_of, draft_of};
+ghost use Rattle.rl_syntax.specs.DraftReading.{lists_of, draft_of};
 ghost use Rattle.rl_syntax.specs.Reading.{Reads};
 
 use crate::boxes::boxes_of;
@@ -14,7 +14,7 @@ use rl_base::{Draft, Place};
 use std::alloc::Global;
 use toml::Table;
 
-#[tactic(auto, unfolding(crate::specs::Network::lists_of))]
+#[tactic(auto, unfolding(crate::specs::DraftReading::lists_of))]
 fn lists_of(alloc: Global, table: &Table) -> Result<Draft, SyntaxRefusal>
     ensures reads { Reads result (lists_of (table_view table.now)) }
     ensures countable { IfOk result HasCountableLists }
@@ -37,7 +37,7 @@ fn lists_of(alloc: Global, table: &Table) -> Result<Draft, SyntaxRefusal>
 }
 
 /// The draft that a document says, its names not yet tested.
-#[tactic(auto, unfolding(crate::specs::Network::draft_of))]
+#[tactic(auto, unfolding(crate::specs::DraftReading::draft_of))]
 pub(crate) fn draft_of(alloc: Global, table: &Table) -> Result<Draft, SyntaxRefusal>
     ensures reads { Reads result (draft_of (table_view table.now)) }
     ensures countable { IfOk result HasCountableLists }

@@ -5,7 +5,7 @@ use Rattle.toml.specs.View.{table_view}
 use Rattle.toml_parser.specs.Strings.{recursion_limit}
 use Rattle.rl_syntax.specs.DraftTable.{draft_table}
 use Rattle.rl_syntax.proofs.ReadBack.{draft_depth, read_back}
-use Rattle.rl_syntax.proofs.write.write_draft.Goals as goal
+use Rattle.rl_syntax.proofs.writing.write_draft.Goals as goal
 
 pub returns-clause-reads_back : goal.returns-clause-reads_back
 returns-clause-reads_back c = λ short.
