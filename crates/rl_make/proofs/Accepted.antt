@@ -1,22 +1,18 @@
 -- The ring breaks no rule.
-use Rattle.std.proofs.Common.{◌≡◌, ℕ, zero, suc, ◌+◌, ◌-◌, ◌*◌, ◌%◌, ◌<◌, ◌≤◌, ◌^◌, codes, decimal, Bool, true, false, not, cond, eqb, ltb, ◌&&◌, ◌||◌, List, [], ◌∷◌, ◌++◌, length, map, take, slice_get, Option, Some, None, is_some, is_none, bytes_eq, refl, sym, ap, ◌∙◌, arith}
+use Rattle.std.proofs.Common.{◌≡◌, ℕ, ◌%◌, ◌<◌, ◌≤◌, ◌^◌, Bool, true, false, not, cond, eqb, ltb, ◌&&◌, List, [], ◌∷◌, length, map, slice_get, Some, is_some, is_none, bytes_eq, refl, arith}
 use Rattle.std.proofs.lemmas.Bool.Decides.{nat_tests}
-use Rattle.std.specs.List.{list_any, list_all}
+use Rattle.std.specs.List.{list_any}
 use Rattle.std.specs.Option.{option_map_or}
-use Rattle.rl_base.specs.Draft.{HasNames}
 use Rattle.rl_base.specs.Kind.{arms_of}
-use Rattle.rl_base.specs.Name.{is_name}
 use Rattle.rl_base.specs.declared.limits.TheConstants.{MAX_SEGMENTS, MAX_BOXES, MAX_TRAINS, MAX_ROUTE}
-use Rattle.rl_base.specs.declared.place.Place.{Place}
 use Rattle.rl_base.specs.declared.place.Place.TheVariants as place
-use Rattle.rl_base.specs.declared.draft.Draft.{Draft}
 use Rattle.rl_base.specs.declared.draft.DraftBox.{DraftBox}
 use Rattle.rl_base.specs.declared.draft.DraftTrain.{DraftTrain}
 use Rattle.rl_drafts.specs.Drafts.{box_names, ends_of}
-use Rattle.rl_drafts.specs.Refusals.{on_box, on_train, on_name, is_among, is_twice, is_point, fits_at, starts_below, is_start, breaks, IsAccepted}
+use Rattle.rl_drafts.specs.Refusals.{on_box, on_train, on_name, is_among, is_twice, is_point, starts_below, is_start, IsAccepted}
 use Rattle.rl_make.specs.Ring.{upper, lower, middle, line, entry, exit, joint, before, segments_of, point_box, joint_box, boxes_of, platform, train_of, each, ring}
 use Rattle.rl_make.proofs.Distinct.{segments_once, boxes_once, trains_once}
-use Rattle.rl_make.proofs.Each.{any-each-none, none_at, map-each, length-each, Fresh, fresh_all, each_fresh, is_one_of, twice-fresh}
+use Rattle.rl_make.proofs.Each.{any-each-none, none_at, map-each, length-each, fresh_all, each_fresh, twice-fresh}
 use Rattle.rl_make.proofs.EndsOf.{before_within, upper_ends, lower_ends, middle_ends, line_ends}
 use Rattle.rl_make.proofs.Found.{upper_is, lower_is, middle_is, line_is}
 use Rattle.rl_make.proofs.Names.{differs}

@@ -1,5 +1,5 @@
 -- No name stands twice.
-use Rattle.std.proofs.Common.{◌≡◌, ℕ, ◌+◌, ◌<◌, ◌≤◌, ◌^◌, codes, decimal, Bool, true, false, ◌||◌, List, [], ◌∷◌, ◌++◌, map, bytes_eq, refl, arith}
+use Rattle.std.proofs.Common.{◌≡◌, ℕ, ◌<◌, ◌≤◌, ◌^◌, codes, decimal, Bool, false, List, [], ◌∷◌, ◌++◌, bytes_eq, refl, arith}
 use Rattle.std.specs.List.{list_any}
 use Rattle.rl_drafts.specs.Refusals.{is_twice}
 use Rattle.rl_drafts.specs.Drafts.{box_names, train_names}

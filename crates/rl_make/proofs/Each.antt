@@ -1,5 +1,5 @@
 -- What holds of the parts holds of all of them together.
-use Rattle.std.proofs.Common.{◌≡◌, ℕ, zero, suc, ◌+◌, ◌<◌, ◌≤◌, ◌==◌, Bool, true, false, cond, eqb, ◌||◌, ◌&&◌, List, [], ◌∷◌, ◌++◌, length, length-append, ◌*◌, take, map, subst, slice_get, is_some, bytes_eq, Option, Some, None, option_map, ◌⊎◌, inl, inr, ⊎_elim, refl, sym, ap, ◌∙◌, append_assoc, append-nil, arith}
+use Rattle.std.proofs.Common.{◌≡◌, ℕ, zero, suc, ◌<◌, Bool, true, false, cond, eqb, ◌||◌, ◌&&◌, List, [], ◌∷◌, ◌++◌, length, length-append, ◌*◌, take, map, subst, slice_get, is_some, bytes_eq, Option, Some, None, option_map, refl, sym, ap, ◌∙◌, append_assoc, append-nil, arith}
 use Rattle.std.proofs.lemmas.Bool.{and_parts}
 use Rattle.std.proofs.lemmas.Bool.Decides.{nat_tests}
 use Rattle.std.proofs.lemmas.List.{map-append}
@@ -7,7 +7,7 @@ use Rattle.std.proofs.lemmas.List.Folds.{list_any-append, list_all-append, find-
 use Rattle.std.specs.List.{list_any, list_all, find}
 use Rattle.std.specs.Option.{option_map_or, option_or}
 use Rattle.rl_drafts.specs.Drafts.{number_in}
-use Rattle.rl_drafts.specs.Refusals.{on_name, is_among, is_twice}
+use Rattle.rl_drafts.specs.Refusals.{is_among, is_twice}
 use Rattle.rl_make.specs.Ring.{each}
 
 -- no item passes

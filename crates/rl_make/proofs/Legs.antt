@@ -1,5 +1,5 @@
 -- The legs of a route, one after another.
-use Rattle.std.proofs.Common.{◌≡◌, ℕ, zero, suc, ◌+◌, ◌-◌, ◌<◌, ◌≤◌, List, [], ◌++◌, refl, sym, ◌∙◌, append_assoc, append-nil, arith}
+use Rattle.std.proofs.Common.{◌≡◌, ℕ, suc, ◌+◌, ◌-◌, ◌<◌, ◌≤◌, List, [], ◌++◌, refl, sym, ◌∙◌, append_assoc, append-nil, arith}
 use Rattle.rl_make.specs.Ring.{after, leg, legs}
 
 -- the next leg of those that are left, and none left

@@ -1,13 +1,13 @@
 -- The names of the ring are names.
-use Rattle.std.proofs.Common.{◌≡◌, ℕ, zero, suc, ◌+◌, ◌<◌, ◌≤◌, codes, decimal, Bool, true, false, cond, eqb, ◌%◌, List, [], ◌∷◌, ◌++◌, refl, arith}
+use Rattle.std.proofs.Common.{◌≡◌, ℕ, zero, suc, ◌<◌, ◌≤◌, Bool, true, false, cond, eqb, ◌%◌, [], ◌∷◌, refl, arith}
 use Rattle.std.specs.Fmt.{digits}
 use Rattle.std.specs.List.{list_all}
 use Rattle.rl_base.specs.Draft.{HasNames}
 use Rattle.rl_base.specs.Name.{is_name}
 use Rattle.rl_base.specs.declared.draft.DraftBox.{DraftBox}
 use Rattle.rl_base.specs.declared.draft.DraftTrain.{DraftTrain}
-use Rattle.rl_make.specs.Ring.{upper, lower, middle, line, entry, exit, joint, before, after, segments_of, boxes_of, platform, legs, train_of, each, ring}
-use Rattle.rl_make.proofs.Each.{all_below, below_passes, all-each}
+use Rattle.rl_make.specs.Ring.{upper, lower, before, after, segments_of, boxes_of, platform, legs, train_of, ring}
+use Rattle.rl_make.proofs.Each.{below_passes, all-each}
 use Rattle.rl_make.proofs.EndsOf.{before_within, after_within}
 
 -- a letter with a number below 32, tried one by one; of the letter the test asks only that it is one

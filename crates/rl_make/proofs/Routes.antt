@@ -1,12 +1,11 @@
 -- A route of the ring goes from segment to segment, through boxes that connect them.
-use Rattle.std.proofs.Common.{◌≡◌, ℕ, zero, suc, ◌+◌, ◌-◌, ◌*◌, ◌%◌, ◌<◌, ◌≤◌, ◌^◌, Bool, true, false, not, cond, eqb, ltb, ◌&&◌, List, [], ◌∷◌, ◌++◌, length, slice_get, Option, Some, None, bytes_eq, refl, sym, ap, ◌∙◌, subst, arith}
+use Rattle.std.proofs.Common.{◌≡◌, ℕ, zero, suc, ◌+◌, ◌-◌, ◌*◌, ◌%◌, ◌<◌, ◌^◌, Bool, true, false, not, cond, eqb, ltb, ◌&&◌, List, [], ◌∷◌, length, Some, refl, arith}
 use Rattle.std.proofs.lemmas.Bool.Decides.{nat_tests}
 use Rattle.std.specs.Option.{option_map_or}
 use Rattle.rl_base.specs.declared.draft.Draft.{Draft}
-use Rattle.rl_base.specs.declared.draft.DraftBox.{DraftBox}
 use Rattle.rl_drafts.specs.Drafts.{box_names}
 use Rattle.rl_drafts.specs.Refusals.{on_name, is_among, box_named, connects_names, fits_at}
-use Rattle.rl_make.specs.Ring.{upper, lower, middle, line, entry, exit, joint, before, after, segments_of, point_box, joint_box, platform, legs, train_of, each, ring}
+use Rattle.rl_make.specs.Ring.{upper, lower, middle, line, entry, exit, joint, after, segments_of, point_box, platform, legs, train_of, each, ring}
 use Rattle.rl_make.proofs.EndsOf.{after_within, before_after}
 use Rattle.rl_make.proofs.Found.{upper_is, lower_is, middle_is, line_is, entry_is, exit_is, joint_is, entry_found, exit_found, joint_found}
 use Rattle.rl_make.proofs.Names.{same}

@@ -1,4 +1,4 @@
-use Rattle.std.proofs.Common.{ap₂, arith}
+use Rattle.std.proofs.Common.{arith}
 use Rattle.rl_make.proofs.Legs.{leg_step, leg_last}
 use Rattle.rl_make.proofs.train.train_of.Goals as goal
 
