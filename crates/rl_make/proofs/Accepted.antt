@@ -1,5 +1,6 @@
 -- The ring breaks no rule.
-use Rattle.std.proofs.Common.{◌≡◌, ℕ, ◌%◌, ◌<◌, ◌≤◌, ◌^◌, Bool, true, false, not, cond, eqb, ltb, ◌&&◌, List, [], ◌∷◌, length, map, slice_get, Some, is_some, is_none, bytes_eq, refl, arith}
+use Rattle.std.proofs.Common.{◌≡◌, ℕ, ◌%◌, ◌<◌, ◌≤◌, ◌^◌, Bool, true, false, not, cond, eqb, ltb, ◌&&◌, List, [], ◌∷◌, length, map, slice_get, Some, is_some}
+use Rattle.std.proofs.Common.{is_none, bytes_eq, refl, arith}
 use Rattle.std.proofs.lemmas.Bool.Decides.{nat_tests}
 use Rattle.std.specs.List.{list_any}
 use Rattle.std.specs.Option.{option_map_or}
@@ -10,7 +11,8 @@ use Rattle.rl_base.specs.declared.draft.DraftBox.{DraftBox}
 use Rattle.rl_base.specs.declared.draft.DraftTrain.{DraftTrain}
 use Rattle.rl_drafts.specs.Drafts.{box_names, ends_of}
 use Rattle.rl_drafts.specs.Refusals.{on_box, on_train, on_name, is_among, is_twice, is_point, starts_below, is_start, IsAccepted}
-use Rattle.rl_make.specs.Ring.{upper, lower, middle, line, entry, exit, joint, before, segments_of, point_box, joint_box, boxes_of, platform, train_of, each, ring}
+use Rattle.rl_make.specs.Ring.{upper, lower, middle, line, entry, exit, joint, before, segments_of, point_box, joint_box, boxes_of, platform, train_of, each}
+use Rattle.rl_make.specs.Ring.{ring}
 use Rattle.rl_make.proofs.Distinct.{segments_once, boxes_once, trains_once}
 use Rattle.rl_make.proofs.Each.{any-each-none, none_at, map-each, length-each, fresh_all, each_fresh, twice-fresh}
 use Rattle.rl_make.proofs.EndsOf.{before_within, upper_ends, lower_ends, middle_ends, line_ends}
@@ -37,10 +39,12 @@ arms_counted : (n i : ℕ) → on_box (ring n) i (λ x. not (eqb (length x.arms)
 arms_counted n i = no_box (λ x. not (eqb (length x.arms) (arms_of x.kind))) n (λ h l. refl) i
 
 -- rule 8: they name segments
-two_there : (names : List (List ℕ)) (x y : List ℕ) (j : ℕ) → is_among names x ≡ true → is_among names y ≡ true → on_name (x ∷ y ∷ []) j (λ name. not (is_among names name)) ≡ false
+two_there : (names : List (List ℕ)) (x y : List ℕ) (j : ℕ) → is_among names x ≡ true → is_among names y ≡ true
+    → on_name (x ∷ y ∷ []) j (λ name. not (is_among names name)) ≡ false
 two_there names x y j a b = none_at (λ name. not (is_among names name)) (x ∷ y ∷ []) (rw (a, b)) j
 
-three_there : (names : List (List ℕ)) (x y z : List ℕ) (j : ℕ) → is_among names x ≡ true → is_among names y ≡ true → is_among names z ≡ true → on_name (x ∷ y ∷ z ∷ []) j (λ name. not (is_among names name)) ≡ false
+three_there : (names : List (List ℕ)) (x y z : List ℕ) (j : ℕ) → is_among names x ≡ true → is_among names y ≡ true → is_among names z ≡ true
+    → on_name (x ∷ y ∷ z ∷ []) j (λ name. not (is_among names name)) ≡ false
 three_there names x y z j a b c = none_at (λ name. not (is_among names name)) (x ∷ y ∷ z ∷ []) (rw (a, b, c)) j
 
 arms_named : (n i j : ℕ) → on_box (ring n) i (λ x. on_name x.arms j (λ name. not (is_among (each segments_of n) name))) ≡ false
@@ -81,8 +85,10 @@ routes_odd : (n i : ℕ) → on_train (ring n) i (λ t. eqb (length t.route % 2)
 routes_odd n i = no_train (λ t. eqb (length t.route % 2) 0) n (λ h l. rw (length-route n h)) i
 
 -- rules 13 and 14: what they name, and that the boxes connect it
-routes_named : (n i j : ℕ) → on_train (ring n) i (λ t. on_name t.route j (λ name. not (is_among (cond (eqb (j % 2) 0) (each segments_of n) (box_names (ring n))) name))) ≡ false
-routes_named n i j = no_train (λ t. on_name t.route j (λ name. not (is_among (cond (eqb (j % 2) 0) (each segments_of n) (box_names (ring n))) name))) n (λ h l. route_named n h j l) i
+routes_named : (n i j : ℕ)
+    → on_train (ring n) i (λ t. on_name t.route j (λ name. not (is_among (cond (eqb (j % 2) 0) (each segments_of n) (box_names (ring n))) name))) ≡ false
+routes_named n i j = no_train (λ t. on_name t.route j (λ name. not (is_among (cond (eqb (j % 2) 0) (each segments_of n) (box_names (ring n))) name))) n
+    (λ h l. route_named n h j l) i
 
 routes_fit : (n i j : ℕ) → n ≤ 32 → on_train (ring n) i (λ t. misfits (ring n) t.route j) ≡ false
 routes_fit n i j few = no_train (λ t. misfits (ring n) t.route j) n (λ h l. route_fits n h j l (omega arith)) i
@@ -103,7 +109,8 @@ platforms_differ i j l fits = at (eqb (i % 2) 0) (eqb (j % 2) 0)
 start_new : (n m : ℕ) → m < 2 ^ 64 → shares (each (λ h. train_of n h ∷ []) m) (train_of n m) ≡ false
 start_new n m fits =
     rw (map-each (λ (u : DraftTrain). slice_get u.route 0) (λ h. train_of n h ∷ []) m)
-    (any-each-none (λ first. option_map_or (λ x. bytes_eq x (platform m m)) first false) (λ h. Some (platform h h) ∷ []) m (λ i l. rw (platforms_differ i m l fits)))
+    (any-each-none (λ first. option_map_or (λ x. bytes_eq x (platform m m)) first false) (λ h. Some (platform h h) ∷ []) m
+    (λ i l. rw (platforms_differ i m l fits)))
 
 starts_apart : (n i : ℕ) → n ≤ 32 → on_train (ring n) i (λ t. on_name t.route 0 (is_start (starts_below (ring n) i))) ≡ false
 starts_apart n i few = fresh_all shares (ring n).trains (each_fresh shares (λ h. train_of n h ∷ []) n (λ m l. (start_new n m (omega arith), tt))) i
@@ -118,9 +125,12 @@ neither_way true b c e f = e
 neither_way false b c e f = f
 
 pub accepted : (n : ℕ) → n ≤ 32 → IsAccepted (ring n)
-accepted n few r place.Segments = and_last (eqb r 5) (ltb MAX_SEGMENTS (length (each segments_of n))) (rw (length-each segments_of 4 (λ i. refl) n) (grind (arith, nat_tests)))
-accepted n few r place.Boxes = and_last (eqb r 5) (ltb MAX_BOXES (length (each (boxes_of n) n))) (rw (length-each (boxes_of n) 3 (λ i. refl) n) (grind (arith, nat_tests)))
-accepted n few r place.Trains = and_last (eqb r 5) (ltb MAX_TRAINS (length (ring n).trains)) (rw (length-each (λ i. train_of n i ∷ []) 1 (λ i. refl) n) (grind (arith, nat_tests)))
+accepted n few r place.Segments = and_last (eqb r 5) (ltb MAX_SEGMENTS (length (each segments_of n)))
+    (rw (length-each segments_of 4 (λ i. refl) n) (grind (arith, nat_tests)))
+accepted n few r place.Boxes = and_last (eqb r 5) (ltb MAX_BOXES (length (each (boxes_of n) n)))
+    (rw (length-each (boxes_of n) 3 (λ i. refl) n) (grind (arith, nat_tests)))
+accepted n few r place.Trains = and_last (eqb r 5) (ltb MAX_TRAINS (length (ring n).trains))
+    (rw (length-each (λ i. train_of n i ∷ []) 1 (λ i. refl) n) (grind (arith, nat_tests)))
 accepted n few r (place.Segment i) = neither_way (eqb r 6) _ _ (segments_once n few i) (and_last (eqb r 10) _ (ends_two n i few))
 accepted n few r (place.BoxName i) = and_last (eqb r 6) _ (boxes_once n few i)
 accepted n few r (place.BoxArms i) = and_last (eqb r 7) _ (arms_counted n i)

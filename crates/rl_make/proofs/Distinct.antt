@@ -73,4 +73,5 @@ train_names-ring : (n : ℕ) → train_names (ring n) ≡ each name_of_train n
 train_names-ring n = map-each (λ (t : DraftTrain). t.name) (λ i. train_of n i ∷ []) n
 
 pub trains_once : (n : ℕ) → n ≤ 32 → (i : ℕ) → is_twice (train_names (ring n)) i ≡ false
-trains_once n few i = rw (train_names-ring n) (twice-fresh (each name_of_train n) (each_fresh is_one_of name_of_train n (λ m l. trains_fresh m (omega arith))) i)
+trains_once n few i = rw (train_names-ring n)
+    (twice-fresh (each name_of_train n) (each_fresh is_one_of name_of_train n (λ m l. trains_fresh m (omega arith))) i)

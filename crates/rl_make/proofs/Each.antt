@@ -1,5 +1,6 @@
 -- What holds of the parts holds of all of them together.
-use Rattle.std.proofs.Common.{◌≡◌, ℕ, zero, suc, ◌<◌, Bool, true, false, cond, eqb, ◌||◌, ◌&&◌, List, [], ◌∷◌, ◌++◌, length, length-append, ◌*◌, take, map, subst, slice_get, is_some, bytes_eq, Option, Some, None, option_map, refl, sym, ap, ◌∙◌, append_assoc, append-nil, arith}
+use Rattle.std.proofs.Common.{◌≡◌, ℕ, zero, suc, ◌<◌, Bool, true, false, cond, eqb, ◌||◌, ◌&&◌, List, [], ◌∷◌, ◌++◌, length, length-append, ◌*◌, take, map}
+use Rattle.std.proofs.Common.{subst, slice_get, is_some, bytes_eq, Option, Some, None, option_map, refl, sym, ap, ◌∙◌, append_assoc, append-nil, arith}
 use Rattle.std.proofs.lemmas.Bool.{and_parts}
 use Rattle.std.proofs.lemmas.Bool.Decides.{nat_tests}
 use Rattle.std.proofs.lemmas.List.{map-append}
@@ -67,7 +68,8 @@ pub among-any : (names : List (List ℕ)) (name : List ℕ) → is_among names n
 among-any [] name = refl
 among-any (m ∷ names) name = at (bytes_eq m name) (found_later (number_in names name) ∙ among-any names name)
   where
-    at : (b : Bool) → is_some (option_map suc (number_in names name)) ≡ list_any (λ m. bytes_eq m name) names → is_some (cond b (Some 0) (option_map suc (number_in names name))) ≡ (b || list_any (λ m. bytes_eq m name) names)
+    at : (b : Bool) → is_some (option_map suc (number_in names name)) ≡ list_any (λ m. bytes_eq m name) names
+        → is_some (cond b (Some 0) (option_map suc (number_in names name))) ≡ (b || list_any (λ m. bytes_eq m name) names)
     at true h = refl
     at false h = h
 
@@ -85,12 +87,14 @@ pub each_fresh : {A : Type 0} (R : List A → A → Bool) (f : ℕ → List A) (
 each_fresh R f zero h = tt
 each_fresh R f (suc n) h = fresh-append R [] (each f n) (f n) (each_fresh R f n (λ m l. h m (omega arith))) (h n (omega arith))
 
-fresh_at : {A : Type 0} (R : List A → A → Bool) (before xs : List A) → Fresh R before xs → (i : ℕ) → option_map_or (λ x. R (before ++ take i xs) x) (slice_get xs i) false ≡ false
+fresh_at : {A : Type 0} (R : List A → A → Bool) (before xs : List A) → Fresh R before xs → (i : ℕ)
+    → option_map_or (λ x. R (before ++ take i xs) x) (slice_get xs i) false ≡ false
 fresh_at R before [] h i = refl
 fresh_at R before (x ∷ xs) h zero = rw (append-nil before) h.0
 fresh_at R before (x ∷ xs) h (suc i) = rw (← append_assoc before (x ∷ []) (take i xs)) (fresh_at R (before ++ x ∷ []) xs h.1 i)
 
-pub fresh_all : {A : Type 0} (R : List A → A → Bool) (xs : List A) → Fresh R [] xs → (i : ℕ) → option_map_or (λ x. R (take i xs) x) (slice_get xs i) false ≡ false
+pub fresh_all : {A : Type 0} (R : List A → A → Bool) (xs : List A) → Fresh R [] xs → (i : ℕ)
+    → option_map_or (λ x. R (take i xs) x) (slice_get xs i) false ≡ false
 fresh_all R xs h i = fresh_at R [] xs h i
 
 -- no name is among those before it
@@ -111,11 +115,13 @@ find-each-none : {A : Type 0} (p : A → Bool) (f : ℕ → List A) (n : ℕ) �
 find-each-none p f zero none = refl
 find-each-none p f (suc n) none = rw (find-append p (each f n) (f n), find-each-none p f n (λ j l. none j (omega arith)), none n (omega arith))
 
-pub find-each : {A : Type 0} (p : A → Bool) (f : ℕ → List A) (n i : ℕ) (x : A) → i < n → ((j : ℕ) → j < i → find p (f j) ≡ None) → find p (f i) ≡ Some x → find p (each f n) ≡ Some x
+pub find-each : {A : Type 0} (p : A → Bool) (f : ℕ → List A) (n i : ℕ) (x : A) → i < n → ((j : ℕ) → j < i → find p (f j) ≡ None) → find p (f i) ≡ Some x
+    → find p (each f n) ≡ Some x
 find-each p f zero i x l none some = absurd (omega (arith, l))
 find-each p f (suc n) i x l none some = find-append p (each f n) (f n) ∙ at (find-each p f n i x) (eqb i n) refl
   where
-    at : (i < n → ((j : ℕ) → j < i → find p (f j) ≡ None) → find p (f i) ≡ Some x → find p (each f n) ≡ Some x) → (b : Bool) → eqb i n ≡ b → option_or (find p (each f n)) (find p (f n)) ≡ Some x
+    at : (i < n → ((j : ℕ) → j < i → find p (f j) ≡ None) → find p (f i) ≡ Some x → find p (each f n) ≡ Some x) → (b : Bool) → eqb i n ≡ b
+        → option_or (find p (each f n)) (find p (f n)) ≡ Some x
     at rest true e =
         let same : i ≡ n = grind (arith, nat_tests) in
         rw (find-each-none p f n (λ j m. none j (omega (arith, m, same)))) (rw (← same) some)

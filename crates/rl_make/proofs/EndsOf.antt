@@ -1,5 +1,6 @@
 -- Each segment has two ends.
-use Rattle.std.proofs.Common.{◌≡◌, ℕ, zero, suc, ◌+◌, ◌-◌, ◌<◌, ◌≤◌, Bool, true, false, cond, eqb, List, [], ◌∷◌, ◌++◌, length, length-append, bytes_eq, refl, ◌∙◌, arith}
+use Rattle.std.proofs.Common.{◌≡◌, ℕ, zero, suc, ◌+◌, ◌-◌, ◌<◌, ◌≤◌, Bool, true, false, cond, eqb, List, [], ◌∷◌, ◌++◌, length, length-append, bytes_eq, refl}
+use Rattle.std.proofs.Common.{◌∙◌, arith}
 use Rattle.std.proofs.lemmas.Bool.Decides.{nat_tests}
 use Rattle.rl_base.specs.declared.draft.DraftBox.{DraftBox}
 use Rattle.rl_drafts.specs.Drafts.{end_at, ends_in_box, ends_from, ends_of}
@@ -19,7 +20,8 @@ length-ends_in_box : (b i : ℕ) (arms : List (List ℕ)) (name : List ℕ) → 
 length-ends_in_box b i [] name = refl
 length-ends_in_box b i (arm ∷ arms) name = at (bytes_eq arm name) (length-ends_in_box b (suc i) arms name)
   where
-    at : (t : Bool) → length (ends_in_box b (suc i) arms name) ≡ hits name arms → length (cond t (end_at b i ∷ ends_in_box b (suc i) arms name) (ends_in_box b (suc i) arms name)) ≡ cond t 1 0 + hits name arms
+    at : (t : Bool) → length (ends_in_box b (suc i) arms name) ≡ hits name arms
+        → length (cond t (end_at b i ∷ ends_in_box b (suc i) arms name) (ends_in_box b (suc i) arms name)) ≡ cond t 1 0 + hits name arms
     at true h = omega (arith, h)
     at false h = omega (arith, h)
 
@@ -69,7 +71,8 @@ total-one k (suc n) l = at (total-one k n) (eqb n k) refl
     at rest false e = let below : k < n = grind (arith, nat_tests) in omega (arith, rest below)
 
 -- two ends, one for each of two numbers
-two_ends : (n j k : ℕ) (name : List ℕ) → j < n → k < n → ((h : ℕ) → h < n → box_hits name (boxes_of n h) ≡ one_at j h + one_at k h) → length (ends_of (ring n) name) ≡ 2
+two_ends : (n j k : ℕ) (name : List ℕ) → j < n → k < n → ((h : ℕ) → h < n → box_hits name (boxes_of n h) ≡ one_at j h + one_at k h)
+    → length (ends_of (ring n) name) ≡ 2
 two_ends n j k name l m each_has =
     length-ends_from 0 (each (boxes_of n) n) name ∙ box_hits-each name (boxes_of n) n
     ∙ total-same (λ h. box_hits name (boxes_of n h)) (λ h. one_at j h + one_at k h) n each_has
@@ -123,4 +126,5 @@ middle_ends n i few l =
 pub line_ends : (n i : ℕ) → n ≤ 32 → i < n → length (ends_of (ring n) (line i)) ≡ 2
 line_ends n i few l =
     two_ends n (after n i) i (line i) (after_within n i l) l (λ h m.
-    rw (same_number (before n h) i (omega (arith, before_within n h m)) (omega arith), same_number h i (omega arith) (omega arith), before_is n i h l m) (omega arith))
+    rw (same_number (before n h) i (omega (arith, before_within n h m)) (omega arith), same_number h i (omega arith) (omega arith), before_is n i h l m)
+    (omega arith))

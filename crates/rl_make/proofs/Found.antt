@@ -21,13 +21,15 @@ pub line_is : (n i : ℕ) → i < n → is_among (each segments_of n) (line i) �
 line_is n i l = among-any (each segments_of n) (line i) ∙ any-each-some (λ m. bytes_eq m (line i)) segments_of n i l (rw (same i))
 
 pub entry_is : (n i : ℕ) → i < n → is_among (box_names (ring n)) (entry i) ≡ true
-entry_is n i l = rw (box_names-ring n) (among-any (each names_of_boxes n) (entry i) ∙ any-each-some (λ m. bytes_eq m (entry i)) names_of_boxes n i l (rw (same i)))
+entry_is n i l = rw (box_names-ring n)
+    (among-any (each names_of_boxes n) (entry i) ∙ any-each-some (λ m. bytes_eq m (entry i)) names_of_boxes n i l (rw (same i)))
 
 pub exit_is : (n i : ℕ) → i < n → is_among (box_names (ring n)) (exit i) ≡ true
 exit_is n i l = rw (box_names-ring n) (among-any (each names_of_boxes n) (exit i) ∙ any-each-some (λ m. bytes_eq m (exit i)) names_of_boxes n i l (rw (same i)))
 
 pub joint_is : (n i : ℕ) → i < n → is_among (box_names (ring n)) (joint i) ≡ true
-joint_is n i l = rw (box_names-ring n) (among-any (each names_of_boxes n) (joint i) ∙ any-each-some (λ m. bytes_eq m (joint i)) names_of_boxes n i l (rw (same i)))
+joint_is n i l = rw (box_names-ring n)
+    (among-any (each names_of_boxes n) (joint i) ∙ any-each-some (λ m. bytes_eq m (joint i)) names_of_boxes n i l (rw (same i)))
 
 -- and a name finds its box
 pub entry_found : (n i : ℕ) → i < n → i < 2 ^ 64 → box_named (ring n) (entry i) ≡ Some (point_box (entry i) (line (before n i)) (upper i) (lower i))

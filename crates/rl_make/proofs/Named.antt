@@ -40,5 +40,6 @@ ring_named n few = record {
       let earlier : before n i < 32 = omega (arith, before_within n i l, few) in
       rw (numbered (before n i) earlier, numbered i m));
   trains = all-each (λ (t : DraftTrain). is_name t.name) (λ i. train_of n i ∷ []) n (λ i l. let m : i < 32 = omega arith in rw (numbered i m));
-  routes = all-each (λ (t : DraftTrain). list_all is_name t.route) (λ i. train_of n i ∷ []) n (λ i l. let m : i < 32 = omega arith in rw (platform_name i i m, legs_named n i 20 i few l));
+  routes = all-each (λ (t : DraftTrain). list_all is_name t.route) (λ i. train_of n i ∷ []) n
+      (λ i l. let m : i < 32 = omega arith in rw (platform_name i i m, legs_named n i 20 i few l));
 }

@@ -1,5 +1,6 @@
 -- A route of the ring goes from segment to segment, through boxes that connect them.
-use Rattle.std.proofs.Common.{◌≡◌, ℕ, zero, suc, ◌+◌, ◌-◌, ◌*◌, ◌%◌, ◌<◌, ◌^◌, Bool, true, false, not, cond, eqb, ltb, ◌&&◌, List, [], ◌∷◌, length, Some, refl, arith}
+use Rattle.std.proofs.Common.{◌≡◌, ℕ, zero, suc, ◌+◌, ◌-◌, ◌*◌, ◌%◌, ◌<◌, ◌^◌, Bool, true, false, not, cond, eqb, ltb, ◌&&◌, List, [], ◌∷◌, length, Some, refl}
+use Rattle.std.proofs.Common.{arith}
 use Rattle.std.proofs.lemmas.Bool.Decides.{nat_tests}
 use Rattle.std.specs.Option.{option_map_or}
 use Rattle.rl_base.specs.declared.draft.Draft.{Draft}
@@ -35,7 +36,8 @@ swapped : {A : Type 0} (b : Bool) (x y : A) → cond (not b) x y ≡ cond b y x
 swapped true x y = refl
 swapped false x y = refl
 
-alternates_at : (evens odds xs : List (List ℕ)) → Alternates evens odds xs → (j : ℕ) → on_name xs j (λ name. not (is_among (cond (eqb (j % 2) 0) evens odds) name)) ≡ false
+alternates_at : (evens odds xs : List (List ℕ)) → Alternates evens odds xs → (j : ℕ)
+    → on_name xs j (λ name. not (is_among (cond (eqb (j % 2) 0) evens odds) name)) ≡ false
 alternates_at evens odds [] h j = refl
 alternates_at evens odds (x ∷ xs) h zero = rw h.0
 alternates_at evens odds (x ∷ xs) h (suc j) =
@@ -52,10 +54,16 @@ legs_alternate : (n i k h : ℕ) → h < n → Alternates (box_names (ring n)) (
 unfolding legs
 legs_alternate n i zero h l = tt
 legs_alternate n i (suc k) h l =
-    let m = after_within n h l in
-    (exit_is n h l, (middle_is n h l, (joint_is n h l, (line_is n h l, (entry_is n (after n h) m, (platform_is n i (after n h) m, legs_alternate n i k (after n h) m))))))
+    let m = after_within n h l in (
+      exit_is n h l,
+      (
+        middle_is n h l,
+        (joint_is n h l, (line_is n h l, (entry_is n (after n h) m, (platform_is n i (after n h) m, legs_alternate n i k (after n h) m)))),
+      ),
+    )
 
-pub route_named : (n i j : ℕ) → i < n → on_name (train_of n i).route j (λ name. not (is_among (cond (eqb (j % 2) 0) (each segments_of n) (box_names (ring n))) name)) ≡ false
+pub route_named : (n i j : ℕ) → i < n
+    → on_name (train_of n i).route j (λ name. not (is_among (cond (eqb (j % 2) 0) (each segments_of n) (box_names (ring n))) name)) ≡ false
 route_named n i j l =
     alternates_at (each segments_of n) (box_names (ring n)) (train_of n i).route (platform_is n i i l, legs_alternate n i 20 i l) j
 
@@ -117,8 +125,10 @@ all_fit_at d from (box ∷ to ∷ names) h zero = refl
 all_fit_at d from (box ∷ to ∷ names) h (suc zero) = fitting (eqb (1 % 2) 1) (ltb 1 (length (from ∷ box ∷ to ∷ names))) (fits d from box to) h.0
 all_fit_at d from (box ∷ to ∷ names) h (suc (suc zero)) = refl
 all_fit_at d from (box ∷ to ∷ names) h (suc (suc (suc j))) =
-    same_misfit (eqb (suc (suc (suc j)) % 2) 1) (eqb (suc j % 2) 1) (ltb (suc (suc (suc j))) (length (from ∷ box ∷ to ∷ names))) (ltb (suc j) (length (to ∷ names)))
-    (fits_at d (from ∷ box ∷ to ∷ names) (suc (suc (suc j)))) (fits_at d (to ∷ names) (suc j)) (two_later (suc j)) (both_later (suc j) (length (to ∷ names))) (fits_at-later d from box (to ∷ names) j)
+    same_misfit (eqb (suc (suc (suc j)) % 2) 1) (eqb (suc j % 2) 1) (ltb (suc (suc (suc j))) (length (from ∷ box ∷ to ∷ names)))
+    (ltb (suc j) (length (to ∷ names)))
+    (fits_at d (from ∷ box ∷ to ∷ names) (suc (suc (suc j)))) (fits_at d (to ∷ names) (suc j)) (two_later (suc j)) (both_later (suc j) (length (to ∷ names)))
+    (fits_at-later d from box (to ∷ names) j)
     (all_fit_at d to names h.1 (suc j))
 
 -- the three ways of a leg
@@ -144,8 +154,10 @@ entry_fits n i h l small =
 legs_fit : (n i k h : ℕ) → h < n → n < 2 ^ 64 → AllFit (ring n) (platform i h) (legs n i k h)
 unfolding legs
 legs_fit n i zero h l small = tt
-legs_fit n i (suc k) h l small =
-    (exit_fits n i h l (omega (arith, l, small)), (joint_fits n h l (omega (arith, l, small)), (entry_fits n i h l small, legs_fit n i k (after n h) (after_within n h l) small)))
+legs_fit n i (suc k) h l small = (
+  exit_fits n i h l (omega (arith, l, small)),
+  (joint_fits n h l (omega (arith, l, small)), (entry_fits n i h l small, legs_fit n i k (after n h) (after_within n h l) small)),
+)
 
 pub route_fits : (n i j : ℕ) → i < n → n < 2 ^ 64 → misfits (ring n) (train_of n i).route j ≡ false
 route_fits n i j l small = all_fit_at (ring n) (platform i i) (legs n i 20 i) (legs_fit n i 20 i l small) j

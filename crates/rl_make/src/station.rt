@@ -1,5 +1,6 @@
 ghost use Rattle.std.specs.Prelude.{◌≡◌, ◌<◌, ◌≤◌, ◌∷◌, [], ◌++◌, IfOk, OnOk, decimal};
-ghost use Rattle.rl_make.specs.Ring.{upper, lower, middle, line, entry, exit, joint, before, after, segments_of, point_box, joint_box, boxes_of};
+ghost use Rattle.rl_make.specs.Ring.{upper, lower, middle, line, entry, exit, joint, before, after, segments_of};
+ghost use Rattle.rl_make.specs.Ring.{point_box, joint_box, boxes_of};
 
 use rl_base::{DraftBox, DraftBoxes, Kind, Name, Names, NoMemory, Side};
 use rl_text::Out;

@@ -1,5 +1,6 @@
 -- The table that is written for a draft is read as that draft.
-use Rattle.std.proofs.Common.{◌≡◌, ℕ, ◌+◌, ◌≤◌, List, [], ◌∷◌, ◌++◌, length, Option, Some, None, Ok, IsUtf8, refl, ap, ◌∙◌, sym, append_assoc, append-nil, arith}
+use Rattle.std.proofs.Common.{◌≡◌, ℕ, ◌+◌, ◌≤◌, List, [], ◌∷◌, ◌++◌, length, Option, Some, None, Ok, IsUtf8, refl, ap, ◌∙◌, sym, append_assoc, append-nil}
+use Rattle.std.proofs.Common.{arith}
 use Rattle.rl_base.specs.Draft.{HasNames}
 use Rattle.rl_base.specs.declared.draft.Draft.{Draft}
 use Rattle.rl_base.specs.declared.draft.DraftBox.{DraftBox}
@@ -34,7 +35,8 @@ unfolding names_of
 names_again list ts = texts_again list [] ts
 
 -- a list of tables, each of which is read as what it was written for
-tables_again : {A : Type 0} (f : A → Members) (read : ℕ → Data → Read A) → ((i : ℕ) (x : A) → read i (table (f x)) ≡ Ok x) → (so_far xs : List A) → each read so_far (tables f xs) ≡ Ok (so_far ++ xs)
+tables_again : {A : Type 0} (f : A → Members) (read : ℕ → Data → Read A) → ((i : ℕ) (x : A) → read i (table (f x)) ≡ Ok x) → (so_far xs : List A)
+    → each read so_far (tables f xs) ≡ Ok (so_far ++ xs)
 tables_again {A} f read one so_far [] = ap (λ (xs : List A). Ok xs) (sym (append-nil so_far))
 tables_again {A} f read one so_far (x ∷ xs) =
     rw (one (length so_far) x) (tables_again f read one (so_far ++ x ∷ []) xs ∙ ap (λ (ys : List A). Ok ys) (append_assoc so_far (x ∷ []) xs))
@@ -44,7 +46,8 @@ box_again : (i : ℕ) (b : DraftBox) → box_in i (table (box_table b)) ≡ Ok b
 unfolding box_of is_known
 box_again i b = parts b.name b.kind b.arms b.at
   where
-    parts : (name : List ℕ) (kind : Kind) (arms : List (List ℕ)) (at : Option Side) → (let x : DraftBox = record { name = name; kind = kind; arms = arms; at = at } in box_in i (table (box_table x)) ≡ Ok x)
+    parts : (name : List ℕ) (kind : Kind) (arms : List (List ℕ)) (at : Option Side)
+        → (let x : DraftBox = record { name = name; kind = kind; arms = arms; at = at } in box_in i (table (box_table x)) ≡ Ok x)
     parts name kind arms None = rw (named_again kind, names_again (lists.Arms i) arms)
     parts name kind arms (Some side) = rw (named_again kind, names_again (lists.Arms i) arms, side_again side)
 
@@ -72,7 +75,8 @@ texts_flat (t ∷ ts) = rw (texts_flat ts)
 box_depth : (b : DraftBox) → members_depth (box_table b) ≤ 1
 box_depth b = parts b.name b.kind b.arms b.at
   where
-    parts : (name : List ℕ) (kind : Kind) (arms : List (List ℕ)) (at : Option Side) → (let x : DraftBox = record { name = name; kind = kind; arms = arms; at = at } in members_depth (box_table x) ≤ 1)
+    parts : (name : List ℕ) (kind : Kind) (arms : List (List ℕ)) (at : Option Side)
+        → (let x : DraftBox = record { name = name; kind = kind; arms = arms; at = at } in members_depth (box_table x) ≤ 1)
     parts name kind arms None = omega (arith, texts_flat arms)
     parts name kind arms (Some side) = omega (arith, texts_flat arms)
 
@@ -87,7 +91,8 @@ pub draft_depth : (d : Draft) → members_depth (draft_table d) ≤ recursion_li
 draft_depth d =
     omega (arith, texts_flat d.segments, tables_depth box_table box_depth d.boxes, tables_depth train_table train_depth d.trains)
 
-pub read_back : (d : Draft) (text : List ℕ) → HasNames d → length text ≤ MAX_NETWORK_BYTES → IsUtf8 text → parse_document text ≡ Some (draft_table d) → Means text (Ok d)
+pub read_back : (d : Draft) (text : List ℕ) → HasNames d → length text ≤ MAX_NETWORK_BYTES → IsUtf8 text → parse_document text ≡ Some (draft_table d)
+    → Means text (Ok d)
 read_back d text names short utf8 parsed = (
   draft_table d,
   record { short = short; utf8 = utf8; parsed = parsed },

@@ -1,5 +1,6 @@
 -- What is written for a draft: texts, lists and tables, one step of a loop at a time.
-use Rattle.std.proofs.Common.{◌≡◌, ℕ, zero, suc, ◌+◌, ◌<◌, Bool, true, false, List, [], ◌∷◌, ◌++◌, length, get_or, take, slice_index, String, Global, Ordering, Less, Equal, Greater, string_bytes, IsUtf8, refl, ap, sym, ◌∙◌, arith}
+use Rattle.std.proofs.Common.{◌≡◌, ℕ, zero, suc, ◌+◌, ◌<◌, Bool, true, false, List, [], ◌∷◌, ◌++◌, length, get_or, take, slice_index, String, Global, Ordering}
+use Rattle.std.proofs.Common.{Less, Equal, Greater, string_bytes, IsUtf8, refl, ap, sym, ◌∙◌, arith}
 use Rattle.std.proofs.lemmas.Bool.{and_parts, both_ways}
 use Rattle.std.proofs.lemmas.Bool.Decides.{nat_tests}
 use Rattle.std.proofs.lemmas.List.{take_more}
@@ -53,14 +54,17 @@ passes_at p (y ∷ ys) zero x l e h = ap p e ∙ (and_parts (p y) (list_all p ys
 passes_at p (y ∷ ys) (suc i) x l e h = passes_at p ys i x (omega (arith, l)) e (and_parts (p y) (list_all p ys) h).1
 
 -- an insert into the map of a table
-inserted : (o : Ordering) (k : String Global) (v : Value) (e : Entry) (es : List Entry) → members_view (insert_entry string_cmp es k v) ≡ put (string_bytes k) (view v) (members_view es)
+inserted : (o : Ordering) (k : String Global) (v : Value) (e : Entry) (es : List Entry)
+    → members_view (insert_entry string_cmp es k v) ≡ put (string_bytes k) (view v) (members_view es)
     → members_view (match_ordering o ((k, v) ∷ e ∷ es) ((e.0, v) ∷ es) (e ∷ insert_entry string_cmp es k v))
-    ≡ match_ordering o (member (string_bytes k) (view v) (members_view (e ∷ es))) (member (string_bytes e.0) (view v) (members_view es)) (member (string_bytes e.0) (view e.1) (put (string_bytes k) (view v) (members_view es)))
+    ≡ match_ordering o (member (string_bytes k) (view v) (members_view (e ∷ es))) (member (string_bytes e.0) (view v) (members_view es))
+    (member (string_bytes e.0) (view e.1) (put (string_bytes k) (view v) (members_view es)))
 inserted Less k v e es h = refl
 inserted Equal k v e es h = refl
 inserted Greater k v e es h = ap (member (string_bytes e.0) (view e.1)) h
 
-pub members_view-insert_entry : (k : String Global) (v : Value) (es : List Entry) → members_view (insert_entry string_cmp es k v) ≡ put (string_bytes k) (view v) (members_view es)
+pub members_view-insert_entry : (k : String Global) (v : Value) (es : List Entry)
+    → members_view (insert_entry string_cmp es k v) ≡ put (string_bytes k) (view v) (members_view es)
 members_view-insert_entry k v [] = refl
 members_view-insert_entry k v (e ∷ es) = inserted (string_cmp k e.0) k v e es (members_view-insert_entry k v es)
 
@@ -75,11 +79,13 @@ tables-last : {A : Type 0} (f : A → Members) (xs : List A) (x : A) → tables 
 tables-last f [] x = refl
 tables-last f (y ∷ ys) x = ap (item (table (f y))) (tables-last f ys x)
 
-pub texts-more : (vs : List Value) (v : Value) (names : List (List ℕ)) (i : ℕ) (name : List ℕ) → i < length names → name ≡ get_or names i name → items_view vs ≡ texts (take i names) → view v ≡ string name → items_view (vs ++ v ∷ []) ≡ texts (take (i + 1) names)
+pub texts-more : (vs : List Value) (v : Value) (names : List (List ℕ)) (i : ℕ) (name : List ℕ) → i < length names → name ≡ get_or names i name
+    → items_view vs ≡ texts (take i names) → view v ≡ string name → items_view (vs ++ v ∷ []) ≡ texts (take (i + 1) names)
 texts-more vs v names i name l e so_far is =
     rw (items_view-push, so_far, is, take_more names i name l, ← e) (sym (texts-last (take i names) name))
 
-pub tables-more : {A : Type 0} (f : A → Members) (vs : List Value) (v : Value) (xs : List A) (i : ℕ) (x : A) → i < length xs → x ≡ get_or xs i x → items_view vs ≡ tables f (take i xs) → view v ≡ table (f x) → items_view (vs ++ v ∷ []) ≡ tables f (take (i + 1) xs)
+pub tables-more : {A : Type 0} (f : A → Members) (vs : List Value) (v : Value) (xs : List A) (i : ℕ) (x : A) → i < length xs → x ≡ get_or xs i x
+    → items_view vs ≡ tables f (take i xs) → view v ≡ table (f x) → items_view (vs ++ v ∷ []) ≡ tables f (take (i + 1) xs)
 tables-more f vs v xs i x l e so_far is =
     rw (items_view-push, so_far, is, take_more xs i x l, ← e) (sym (tables-last f (take i xs) x))
 

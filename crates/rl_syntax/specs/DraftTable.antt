@@ -13,7 +13,8 @@ use Rattle.toml.specs.Data.{Data, string, integer, array, table, Items, no_items
 -- the table with a value at a key, its keys in order
 abbrev pub put : List ℕ → Data → Members → Members
 put key d no_members = member key d no_members
-put key d (member k e ms) = match_ordering (slice_cmp nat_cmp key k) (member key d (member k e ms)) (member k d ms) (member k e (put key d ms))
+put key d (member k e ms) =
+    match_ordering (slice_cmp nat_cmp key k) (member key d (member k e ms)) (member k d ms) (member k e (put key d ms))
 
 -- the table with the side, where there is one
 abbrev pub put_side : Option Side → Members → Members

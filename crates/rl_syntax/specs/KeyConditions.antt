@@ -1,7 +1,9 @@
 -- Where a key of the document is wrong, missing or has a value of the wrong type, in the order of places.
-use Rattle.std.specs.Prelude.{ℕ, ◌+◌, codes, false, true, not, is_none, Option, Some, None, option_and_then, List, [], ◌∷◌, ◌++◌}
+use Rattle.std.specs.Prelude.{ℕ, ◌+◌, codes, false, true, not, is_none, Option, Some, None, option_and_then, List, []}
+use Rattle.std.specs.Prelude.{◌∷◌, ◌++◌}
 use Rattle.rl_base.specs.declared.place.Place.{Place}
-use Rattle.rl_base.specs.declared.place.Place.TheVariants.{Top, Format, Segments, Boxes, BoxItem, BoxName, BoxKind, BoxArms, BoxSide, Trains, TrainItem, TrainName, TrainRoute}
+use Rattle.rl_base.specs.declared.place.Place.TheVariants.{Top, Format, Segments, Boxes, BoxItem, BoxName, BoxKind}
+use Rattle.rl_base.specs.declared.place.Place.TheVariants.{BoxArms, BoxSide, Trains, TrainItem, TrainName, TrainRoute}
 use Rattle.rl_syntax.specs.declared.names.NameList.{NameList}
 use Rattle.rl_syntax.specs.declared.names.NameList.TheVariants as lists
 use Rattle.rl_syntax.specs.declared.keys.Keys.TheVariants as keys
