@@ -1,5 +1,6 @@
 -- The answer to a text means what it says.
-use Rattle.std.proofs.Common.{◌≡◌, ℕ, ◌<◌, ◌≤◌, nat_lt, Bool, true, false, cond, List, length, Option, Some, None, Result, Ok, Err, IfOk, refl, ap, sym, subst, ◌∙◌, arith}
+use Rattle.std.proofs.Common.{◌≡◌, ℕ, ◌<◌, ◌≤◌, nat_lt, Bool, true, false, cond, List, length, Option, Some, None, Result, Ok, Err, IfOk, refl, ap, sym, subst}
+use Rattle.std.proofs.Common.{◌∙◌, arith}
 use Rattle.std.proofs.lemmas.Bool.Decides.{nat_tests}
 use Rattle.std.proofs.lemmas.Str.{IsUtf8-from_is_utf8, is_utf8-from_IsUtf8}
 use Rattle.std.specs.Str.{is_utf8}
@@ -13,7 +14,7 @@ use Rattle.rl_syntax.specs.Document.{document}
 use Rattle.rl_syntax.specs.Meaning.{IsDocument, HasDraft, Means}
 use Rattle.rl_syntax.specs.KeyConditions.{key_conditions}
 use Rattle.rl_syntax.specs.NameConditions.{name_conditions}
-use Rattle.rl_syntax.specs.Network.{draft_of}
+use Rattle.rl_syntax.specs.DraftReading.{draft_of}
 use Rattle.rl_syntax.specs.Reading.{Read}
 use Rattle.rl_syntax.specs.declared.refusal.SyntaxRefusal.{SyntaxRefusal}
 use Rattle.rl_syntax.specs.declared.refusal.SyntaxRefusal.TheVariants.{TooLong, NotToml, Key, BadName, NoMemory}
@@ -46,12 +47,14 @@ is_document : (text : List ℕ) (m : Members) → IsDocument text m → document
 unfolding document
 is_document text m h = rw (is_utf8-from_IsUtf8 text h.utf8) h.parsed
 
-by_name : (text : List ℕ) (m : Members) (d : Draft) → IsDocument text m → HasDraft m d → (o : Option Place) → first (name_conditions d) ≡ o → Means text (unless_bad d o)
+by_name : (text : List ℕ) (m : Members) (d : Draft) → IsDocument text m → HasDraft m d → (o : Option Place) → first (name_conditions d) ≡ o
+    → Means text (unless_bad d o)
 by_name text m d is has None e = (m, is, has, HasNames-from_first d e)
 by_name text m d is has (Some p) e = (m, d, is, has, first-some _ (name_conditions d) _ p (draft_names_ascend d) e)
 
 by_reading : (text : List ℕ) (m : Members) → IsDocument text m → (r : Read Draft) → draft_of m ≡ r → Means text (of_reading r)
-by_reading text m is (Ok d) e = by_name text m d is (record { keys = first-none (key_conditions m) (key_first m ∙ ap stop e); says = draft_says m d e }) (first (name_conditions d)) refl
+by_reading text m is (Ok d) e = by_name text m d is (record { keys = first-none (key_conditions m) (key_first m ∙ ap stop e); says = draft_says m d e })
+    (first (name_conditions d)) refl
 by_reading text m is (Err p) e = (m, is, first-some _ (key_conditions m) _ p (keys_ascend m) (key_first m ∙ ap stop e))
 
 by_document : (text : List ℕ) → length text ≤ MAX_NETWORK_BYTES → (o : Option Members) → document text ≡ o → Means text (of_document o)
@@ -122,8 +125,10 @@ pub answer_to-from_means : (text : List ℕ) (r : Result Draft SyntaxRefusal) �
 answer_to-from_means text (Ok d) (m, is, has, names) = answer_draft text m d is has ∙ ap (unless_bad d) (first-from_HasNames d names)
 answer_to-from_means text (Err TooLong) h = too_long text h
 answer_to-from_means text (Err NotToml) (short, none) = answer_short text short ∙ ap of_document (no_document text short none)
-answer_to-from_means text (Err (Key p)) (m, is, first_is) = answer_document text m is ∙ ap of_reading (stops_at (draft_of m) p (sym (key_first m) ∙ first-from_place _ (key_conditions m) _ p (keys_ascend m) first_is))
-answer_to-from_means text (Err (BadName p)) (m, d, is, has, first_is) = answer_draft text m d is has ∙ ap (unless_bad d) (first-from_place _ (name_conditions d) _ p (draft_names_ascend d) first_is)
+answer_to-from_means text (Err (Key p)) (m, is, first_is) = answer_document text m is
+    ∙ ap of_reading (stops_at (draft_of m) p (sym (key_first m) ∙ first-from_place _ (key_conditions m) _ p (keys_ascend m) first_is))
+answer_to-from_means text (Err (BadName p)) (m, d, is, has, first_is) = answer_draft text m d is has
+    ∙ ap (unless_bad d) (first-from_place _ (name_conditions d) _ p (draft_names_ascend d) first_is)
 answer_to-from_means text (Err NoMemory) h = absurd h
 
 pub exact : (text : List ℕ) (r other : Result Draft SyntaxRefusal) → UnlessMemory r (r ≡ answer_to text) → Means text other → UnlessMemory r (r ≡ other)

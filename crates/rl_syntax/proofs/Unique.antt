@@ -22,7 +22,7 @@ same_texts (t ∷ ts) (u ∷ us) h =
     let more = same_texts ts us tails in
     cc
 
-named_again : (k : Kind) → kind_named (kind_word k) ≡ Some k
+pub named_again : (k : Kind) → kind_named (kind_word k) ≡ Some k
 unfolding kind_named
 named_again Buffer = refl
 named_again Joint = refl
@@ -32,7 +32,7 @@ named_again Crossing = refl
 same_kind : (k l : Kind) → kind_word k ≡ kind_word l → k ≡ l
 same_kind k l h = let e : Some k ≡ Some l = sym (named_again k) ∙ ap kind_named h ∙ named_again l in cc
 
-side_again : (s : Side) → side_named (side_word s) ≡ Some s
+pub side_again : (s : Side) → side_named (side_word s) ≡ Some s
 unfolding side_named
 side_again Left = refl
 side_again Right = refl
@@ -50,19 +50,22 @@ box_parts : (b c : DraftBox) → b.name ≡ c.name → b.kind ≡ c.kind → b.a
 box_parts b c name kind arms at =
     make b.name c.name name b.kind c.kind kind b.arms c.arms arms b.at c.at at
   where
-    make : (n n' : List ℕ) → n ≡ n' → (k k' : Kind) → k ≡ k' → (a a' : List (List ℕ)) → a ≡ a' → (s s' : Option Side) → s ≡ s' → (let x : DraftBox = record { name = n; kind = k; arms = a; at = s } in x) ≡ record { name = n'; kind = k'; arms = a'; at = s' }
+    make : (n n' : List ℕ) → n ≡ n' → (k k' : Kind) → k ≡ k' → (a a' : List (List ℕ)) → a ≡ a' → (s s' : Option Side) → s ≡ s'
+        → (let x : DraftBox = record { name = n; kind = k; arms = a; at = s } in x) ≡ record { name = n'; kind = k'; arms = a'; at = s' }
     make n n' e k k' f a a' g s s' h = rw (e, f, g, h)
 
 train_parts : (t u : DraftTrain) → t.name ≡ u.name → t.route ≡ u.route → t ≡ u
 train_parts t u name route = make t.name u.name name t.route u.route route
   where
-    make : (n n' : List ℕ) → n ≡ n' → (r r' : List (List ℕ)) → r ≡ r' → (let x : DraftTrain = record { name = n; route = r } in x) ≡ record { name = n'; route = r' }
+    make : (n n' : List ℕ) → n ≡ n' → (r r' : List (List ℕ)) → r ≡ r'
+        → (let x : DraftTrain = record { name = n; route = r } in x) ≡ record { name = n'; route = r' }
     make n n' e r r' f = rw (e, f)
 
 draft_parts : (d e : Draft) → d.segments ≡ e.segments → d.boxes ≡ e.boxes → d.trains ≡ e.trains → d ≡ e
 draft_parts d e segments boxes trains = make d.segments e.segments segments d.boxes e.boxes boxes d.trains e.trains trains
   where
-    make : (s s' : List (List ℕ)) → s ≡ s' → (b b' : List DraftBox) → b ≡ b' → (t t' : List DraftTrain) → t ≡ t' → (let x : Draft = record { segments = s; boxes = b; trains = t } in x) ≡ record { segments = s'; boxes = b'; trains = t' }
+    make : (s s' : List (List ℕ)) → s ≡ s' → (b b' : List DraftBox) → b ≡ b' → (t t' : List DraftTrain) → t ≡ t'
+        → (let x : Draft = record { segments = s; boxes = b; trains = t } in x) ≡ record { segments = s'; boxes = b'; trains = t' }
     make s s' e b b' f t t' g = rw (e, f, g)
 
 same_box : (m : Members) (b c : DraftBox) → SaysBox m b → SaysBox m c → b ≡ c
@@ -82,7 +85,8 @@ same_train m t u says also =
     let route = same_texts t.route u.route route_texts in
     train_parts t u name route
 
-same_each : {A : Type 0} (Says : Members → A → Type 0) → ((m : Members) (x y : A) → Says m x → Says m y → x ≡ y) → (ds : Items) (xs ys : List A) → SayEach Says ds xs → SayEach Says ds ys → xs ≡ ys
+same_each : {A : Type 0} (Says : Members → A → Type 0) → ((m : Members) (x y : A) → Says m x → Says m y → x ≡ y) → (ds : Items) (xs ys : List A)
+    → SayEach Says ds xs → SayEach Says ds ys → xs ≡ ys
 same_each Says one no_items [] [] h k = refl
 same_each Says one no_items [] (y ∷ ys) h k = absurd k
 same_each Says one no_items (x ∷ xs) ys h k = absurd h
@@ -112,6 +116,9 @@ same_items F G (Some (table s)) h k one = absurd h
 pub same_draft : (m : Members) (d e : Draft) → SaysDraft m d → SaysDraft m e → d ≡ e
 same_draft m d e says also =
     draft_parts d e
-    (same_items (λ ds. ds ≡ texts d.segments) (λ ds. ds ≡ texts e.segments) (get_member (codes "segments") m) says.segments also.segments (λ ds f g. same_texts d.segments e.segments (sym f ∙ g)))
-    (same_items (λ ds. SayEach SaysBox ds d.boxes) (λ ds. SayEach SaysBox ds e.boxes) (get_member (codes "box") m) says.boxes also.boxes (λ ds f g. same_each SaysBox same_box ds d.boxes e.boxes f g))
-    (same_items (λ ds. SayEach SaysTrain ds d.trains) (λ ds. SayEach SaysTrain ds e.trains) (get_member (codes "train") m) says.trains also.trains (λ ds f g. same_each SaysTrain same_train ds d.trains e.trains f g))
+    (same_items (λ ds. ds ≡ texts d.segments) (λ ds. ds ≡ texts e.segments) (get_member (codes "segments") m) says.segments also.segments
+    (λ ds f g. same_texts d.segments e.segments (sym f ∙ g)))
+    (same_items (λ ds. SayEach SaysBox ds d.boxes) (λ ds. SayEach SaysBox ds e.boxes) (get_member (codes "box") m) says.boxes also.boxes
+    (λ ds f g. same_each SaysBox same_box ds d.boxes e.boxes f g))
+    (same_items (λ ds. SayEach SaysTrain ds d.trains) (λ ds. SayEach SaysTrain ds e.trains) (get_member (codes "train") m) says.trains also.trains
+    (λ ds f g. same_each SaysTrain same_train ds d.trains e.trains f g))

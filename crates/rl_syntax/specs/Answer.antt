@@ -6,7 +6,7 @@ use Rattle.rl_base.specs.declared.place.Place.{Place}
 use Rattle.rl_syntax.specs.Condition.{first}
 use Rattle.rl_syntax.specs.Document.{document}
 use Rattle.rl_syntax.specs.NameConditions.{name_conditions}
-use Rattle.rl_syntax.specs.Network.{draft_of}
+use Rattle.rl_syntax.specs.DraftReading.{draft_of}
 use Rattle.rl_syntax.specs.Reading.{Read}
 use Rattle.rl_syntax.specs.declared.refusal.SyntaxRefusal.{SyntaxRefusal}
 use Rattle.rl_syntax.specs.declared.refusal.SyntaxRefusal.TheVariants.{TooLong, NotToml, Key, BadName, NoMemory}

@@ -30,5 +30,6 @@ Means text (Ok d) = (m : Members) × IsDocument text m × HasDraft m d × HasNam
 Means text (Err TooLong) = MAX_NETWORK_BYTES < length text
 Means text (Err NotToml) = (length text ≤ MAX_NETWORK_BYTES) × ((m : Members) → ¬ (IsDocument text m))
 Means text (Err (Key p)) = (m : Members) × IsDocument text m × IsFirstPlace (key_conditions m) p
-Means text (Err (BadName p)) = (m : Members) × (d : Draft) × IsDocument text m × HasDraft m d × IsFirstPlace (name_conditions d) p
+Means text (Err (BadName p)) =
+    (m : Members) × (d : Draft) × IsDocument text m × HasDraft m d × IsFirstPlace (name_conditions d) p
 Means text (Err NoMemory) = ⊥

@@ -9,7 +9,7 @@ use Rattle.rl_base.specs.declared.place.Place.TheVariants.{BoxName, TrainName}
 use Rattle.rl_syntax.specs.declared.names.NameList.{NameList}
 use Rattle.rl_syntax.specs.declared.names.NameList.TheVariants.{Segments, Arms, Route}
 use Rattle.rl_syntax.specs.Condition.{Condition, of_list}
-use Rattle.rl_syntax.specs.Network.{name_place}
+use Rattle.rl_syntax.specs.DraftReading.{name_place}
 
 -- the text is no name
 abbrev pub no_name : Place → List ℕ → Condition

@@ -1,7 +1,7 @@
 ghost use Rattle.std.specs.Prelude.{◌≡◌, IfOk, All, option_map, option_and_then};
 ghost use Rattle.toml.specs.View.{view, table_view, items_view};
 ghost use Rattle.rl_syntax.specs.Countable.{IsCountable, HasCountableArms};
-ghost use Rattle.rl_syntax.specs.Network.{box_of, box_in, boxes_of};
+ghost use Rattle.rl_syntax.specs.DraftReading.{box_of, box_in, boxes_of};
 ghost use Rattle.rl_syntax.specs.Reading.{Reads, needed, optional};
 ghost use Rattle.rl_syntax.specs.Words.{kind_named, side_of};
 
@@ -41,7 +41,7 @@ fn side_at(place: Place, value: Option<&Value>) -> Result<Option<Side>, Place>
 }
 
 /// The box that a table says.
-#[tactic(auto, unfolding(crate::specs::Network::box_of))]
+#[tactic(auto, unfolding(crate::specs::DraftReading::box_of))]
 fn box_of(alloc: Global, i: u32, table: &Table) -> Result<DraftBox, SyntaxRefusal>
     ensures reads { Reads result (box_of i (table_view table.now)) }
     ensures countable { IfOk result HasCountableArms }
@@ -70,7 +70,7 @@ fn box_in(alloc: Global, i: u32, value: &Value) -> Result<DraftBox, SyntaxRefusa
 }
 
 /// The boxes of an array, in order.
-#[tactic(auto, unfolding(crate::specs::Network::boxes_of), using(crate::proofs::Items::steps))]
+#[tactic(auto, unfolding(crate::specs::DraftReading::boxes_of), using(crate::proofs::Items::steps))]
 pub(crate) fn boxes_of(alloc: Global, items: &[Value]) -> Result<DraftBoxes, SyntaxRefusal>
     ensures reads { Reads result (boxes_of (items_view items.now)) }
     ensures countable { IfOk result IsCountable }

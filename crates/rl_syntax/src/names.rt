@@ -1,7 +1,7 @@
 ghost use Rattle.std.specs.Prelude.{◌≡◌, ◌<◌, ◌^◌, ◌↔◌, IsTrue, IfOk, length, option_map};
 ghost use Rattle.toml.specs.View.{items_view};
 ghost use Rattle.rl_syntax.specs.Countable.{IsCountable};
-ghost use Rattle.rl_syntax.specs.Network.{list_place, name_place, names_of, needed_names};
+ghost use Rattle.rl_syntax.specs.DraftReading.{list_place, name_place, names_of, needed_names};
 ghost use Rattle.rl_syntax.specs.Reading.{Reads, needed};
 
 use crate::refusal::SyntaxRefusal;
@@ -64,7 +64,7 @@ pub(crate) fn name_at(
 }
 
 /// The names of an array, in order.
-#[tactic(auto, unfolding(crate::specs::Network::names_of), using(crate::proofs::Items::steps))]
+#[tactic(auto, unfolding(crate::specs::DraftReading::names_of), using(crate::proofs::Items::steps))]
 pub(crate) fn names_of(
     alloc: Global,
     list: NameList,

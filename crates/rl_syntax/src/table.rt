@@ -50,7 +50,8 @@ pub(crate) fn optional_array<'a>(
     place: Place,
     value: Option<&'a Value>,
 ) -> Result<&'a [Value], Place>
-    ensures { result_map_both (λ s. items_view s.now) (λ p. p) result ≡ optional_array place (option_map (λ v. view v.now) value.entry) }
+    ensures { result_map_both (λ s. items_view s.now) (λ p. p) result
+        ≡ optional_array place (option_map (λ v. view v.now) value.entry) }
 {
     match value {
         None => Ok(&[]),

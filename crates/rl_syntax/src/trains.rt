@@ -1,7 +1,7 @@
 ghost use Rattle.std.specs.Prelude.{◌≡◌, IfOk, All};
 ghost use Rattle.toml.specs.View.{view, table_view, items_view};
 ghost use Rattle.rl_syntax.specs.Countable.{IsCountable, HasCountableRoute};
-ghost use Rattle.rl_syntax.specs.Network.{train_of, train_in, trains_of};
+ghost use Rattle.rl_syntax.specs.DraftReading.{train_of, train_in, trains_of};
 ghost use Rattle.rl_syntax.specs.Reading.{Reads};
 
 use crate::keys::Keys;
@@ -13,7 +13,7 @@ use std::alloc::Global;
 use toml::{Table, Value};
 
 /// The train that a table says.
-#[tactic(auto, unfolding(crate::specs::Network::train_of))]
+#[tactic(auto, unfolding(crate::specs::DraftReading::train_of))]
 fn train_of(alloc: Global, i: u32, table: &Table) -> Result<DraftTrain, SyntaxRefusal>
     ensures reads { Reads result (train_of i (table_view table.now)) }
     ensures countable { IfOk result HasCountableRoute }
@@ -35,7 +35,7 @@ fn train_in(alloc: Global, i: u32, value: &Value) -> Result<DraftTrain, SyntaxRe
 }
 
 /// The trains of an array, in order.
-#[tactic(auto, unfolding(crate::specs::Network::trains_of), using(crate::proofs::Items::steps))]
+#[tactic(auto, unfolding(crate::specs::DraftReading::trains_of), using(crate::proofs::Items::steps))]
 pub(crate) fn trains_of(alloc: Global, items: &[Value]) -> Result<DraftTrains, SyntaxRefusal>
     ensures reads { Reads result (trains_of (items_view items.now)) }
     ensures countable { IfOk result IsCountable }

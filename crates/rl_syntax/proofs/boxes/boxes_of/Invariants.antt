@@ -1,7 +1,7 @@
 use Rattle.std.proofs.Common.{◌≡◌, length, drop, All}
 use Rattle.toml.specs.View.{items_view}
 use Rattle.rl_syntax.specs.Countable.{HasCountableArms}
-use Rattle.rl_syntax.specs.Network.{box_in, boxes_of}
+use Rattle.rl_syntax.specs.DraftReading.{box_in, boxes_of}
 use Rattle.rl_syntax.specs.Reading.{each}
 use Rattle.rl_syntax.proofs.boxes.boxes_of.Given as goal
 

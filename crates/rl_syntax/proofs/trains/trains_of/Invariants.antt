@@ -1,7 +1,7 @@
 use Rattle.std.proofs.Common.{◌≡◌, length, drop, All}
 use Rattle.toml.specs.View.{items_view}
 use Rattle.rl_syntax.specs.Countable.{HasCountableRoute}
-use Rattle.rl_syntax.specs.Network.{train_in, trains_of}
+use Rattle.rl_syntax.specs.DraftReading.{train_in, trains_of}
 use Rattle.rl_syntax.specs.Reading.{each}
 use Rattle.rl_syntax.proofs.trains.trains_of.Given as goal
 

@@ -7,8 +7,8 @@ ghost use Rattle.rl_syntax.specs.Answer.{answer_to, UnlessMemory};
 ghost use Rattle.rl_syntax.specs.Document.{document, Parses};
 ghost use Rattle.rl_syntax.specs.Meaning.{Means};
 
+use crate::draft::draft_of;
 use crate::draft_names::test_draft;
-use crate::network::draft_of;
 use crate::refusal::SyntaxRefusal;
 use rl_base::Draft;
 use rl_base::limits::MAX_NETWORK_BYTES;

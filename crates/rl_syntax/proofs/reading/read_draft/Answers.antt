@@ -1,5 +1,5 @@
 use Rattle.rl_syntax.proofs.Meant.{meaning, exact, names-from_answer}
-use Rattle.rl_syntax.proofs.read.read_draft.Goals as goal
+use Rattle.rl_syntax.proofs.reading.read_draft.Goals as goal
 
 pub returns-clause-meaning : goal.returns-clause-meaning
 returns-clause-meaning c = meaning c.args.text.now c.answer_of.result c.answer_of.ensures.answer

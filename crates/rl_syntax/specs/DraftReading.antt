@@ -4,7 +4,9 @@ use Rattle.rl_base.specs.declared.draft.Draft.{Draft}
 use Rattle.rl_base.specs.declared.draft.DraftBox.{DraftBox}
 use Rattle.rl_base.specs.declared.draft.DraftTrain.{DraftTrain}
 use Rattle.rl_base.specs.declared.place.Place.{Place}
-use Rattle.rl_base.specs.declared.place.Place.TheVariants.{Top, Format, Segments, Segment, Boxes, BoxItem, BoxName, BoxKind, BoxArms, BoxArm, BoxSide, Trains, TrainItem, TrainName, TrainRoute, RouteItem}
+use Rattle.rl_base.specs.declared.place.Place.TheVariants.{Top, Format, Segments, Segment, Boxes, BoxItem, BoxName}
+use Rattle.rl_base.specs.declared.place.Place.TheVariants.{BoxKind, BoxArms, BoxArm, BoxSide, Trains, TrainItem}
+use Rattle.rl_base.specs.declared.place.Place.TheVariants.{TrainName, TrainRoute, RouteItem}
 use Rattle.rl_syntax.specs.declared.names.NameList.{NameList}
 use Rattle.rl_syntax.specs.declared.names.NameList.TheVariants as lists
 use Rattle.rl_syntax.specs.declared.keys.Keys.TheVariants as keys
