@@ -1,5 +1,5 @@
 -- The first refusal of a draft as a search: rule by rule, and place by place in the order of places.
-use Rattle.std.specs.Prelude.{ℕ, zero, suc, if◌then◌else◌, List, [], ◌∷◌, length, slice_get, Option, Some, None}
+use Rattle.std.specs.Prelude.{ℕ, zero, suc, if◌then◌else◌, length, slice_get, Option, Some, None}
 use Rattle.std.specs.Option.{option_map_or, option_or, option_map}
 use Rattle.rl_base.specs.declared.place.Place.{Place}
 use Rattle.rl_base.specs.declared.place.Place.TheVariants as place

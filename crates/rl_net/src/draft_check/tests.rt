@@ -246,5 +246,11 @@ fn numbers_by_place(rt: HostRuntime) -> Result<(), Fail> {
     assert!(rt; named);
     let net = check(rt.alloc(), draft)?;
     assert!(rt; turns_right(&net));
+    assert_eq!(rt; net.find_seg(b"R"), Some(SegId(2)));
+    assert_eq!(rt; net.find_seg(b"P"), None);
+    assert_eq!(rt; net.find_box(b"P"), Some(BoxId(1)));
+    assert_eq!(rt; net.find_box(b""), None);
+    assert_eq!(rt; net.find_train(b"T"), Some(TrainId(0)));
+    assert_eq!(rt; net.find_train(b"TT"), None);
     Ok(())
 }

@@ -1,7 +1,7 @@
 use Rattle.std.proofs.Common.{arith, length-append}
 use Rattle.rl_base.proofs.Lists.{each_push}
-use Rattle.rl_domain.specs.Starts.{IsFirstState}
-use Rattle.rl_domain.proofs.starts.first_states.Goals as goal
+use Rattle.rl_domain.specs.FirstStates.{IsFirstState}
+use Rattle.rl_domain.proofs.first_states.first_states.Goals as goal
 
 pub loop-b-preserved : goal.loop-b-preserved
 loop-b-preserved c =

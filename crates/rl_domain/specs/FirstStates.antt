@@ -1,12 +1,12 @@
--- The tables at the start of a network.
+-- The rows at the start of a network.
 use Rattle.std.specs.Prelude.{◌≡◌, ℕ, ◌<◌, false, List, length, slice_get, Option, Some, None}
 use Rattle.std.specs.Option.{option_map_or}
 use Rattle.rl_base.specs.declared.ids.TrainId.{TrainId}
 use Rattle.rl_model.specs.declared.network.NetworkPlan.{NetworkPlan}
 use Rattle.rl_model.specs.Network.{route_segment, segment_at, start_side}
 use Rattle.rl_model.specs.World.{points_at, starts_on}
-use Rattle.rl_domain.specs.declared.tables.BoxState.{BoxState}
-use Rattle.rl_domain.specs.declared.tables.Standing.{Standing}
+use Rattle.rl_domain.specs.declared.states.BoxState.{BoxState}
+use Rattle.rl_domain.specs.declared.states.Standing.{Standing}
 use Rattle.rl_domain.specs.States.{is_train, holder_at}
 
 -- the holder is the train that starts on the segment

@@ -1,4 +1,4 @@
--- The tables of a world: a standing for each train and a state for each box, and the world that they are.
+-- The rows of a world: a standing for each train and a state for each box, and the world that they are.
 use Rattle.std.specs.Prelude.{◌≡◌, ℕ, ◌<◌, ◌≤◌, ◌≢◌, Bool, false, List, length, slice_get, Option, Some, None}
 use Rattle.std.specs.Option.{option_map_or}
 use Rattle.rl_base.specs.Kind.{arms_of}
@@ -8,56 +8,56 @@ use Rattle.rl_model.specs.declared.moves.Points.TheVariants as points
 use Rattle.rl_model.specs.declared.network.NetworkPlan.{NetworkPlan}
 use Rattle.rl_model.specs.Network.{arm_of, kind_of, steps_of}
 use Rattle.rl_model.specs.World.{World}
-use Rattle.rl_domain.specs.declared.tables.PathLock.{PathLock}
-use Rattle.rl_domain.specs.declared.tables.BoxState.{BoxState}
-use Rattle.rl_domain.specs.declared.tables.Passage.{Passage}
-use Rattle.rl_domain.specs.declared.tables.Standing.{Standing}
+use Rattle.rl_domain.specs.declared.states.PathLock.{PathLock}
+use Rattle.rl_domain.specs.declared.states.BoxState.{BoxState}
+use Rattle.rl_domain.specs.declared.states.Passage.{Passage}
+use Rattle.rl_domain.specs.declared.states.Standing.{Standing}
 use Rattle.rl_domain.specs.States.{is_train, is_lock, holder_at, stands_on, stands_across}
 
 -- what contracts see of a `World`
-pub record Tables : Type 0 where
+pub record Rows : Type 0 where
   pub trains : List Standing
   pub boxes : List BoxState
 
 -- the holder of segment s at box b
-abbrev pub holder_of : NetworkPlan → Tables → ℕ → ℕ → Option TrainId
-holder_of net tables s b =
-    option_map_or (λ x. option_map_or (λ state. holder_at state x) (slice_get tables.boxes b) None) (arm_of net s b) None
+abbrev pub holder_of : NetworkPlan → Rows → ℕ → ℕ → Option TrainId
+holder_of net rows s b =
+    option_map_or (λ x. option_map_or (λ state. holder_at state x) (slice_get rows.boxes b) None) (arm_of net s b) None
 
 -- the lock of box b
-abbrev pub lock_of : Tables → ℕ → Option PathLock
-lock_of tables b = option_map_or (λ (x : BoxState). x.lock) (slice_get tables.boxes b) None
+abbrev pub lock_of : Rows → ℕ → Option PathLock
+lock_of rows b = option_map_or (λ (x : BoxState). x.lock) (slice_get rows.boxes b) None
 
 -- the lock of box b is train t's, from one segment to the other
-abbrev pub locked_of : Tables → ℕ → ℕ → ℕ → ℕ → Bool
-locked_of tables b t from to = is_lock t from to (lock_of tables b)
+abbrev pub locked_of : Rows → ℕ → ℕ → ℕ → ℕ → Bool
+locked_of rows b t from to = is_lock t from to (lock_of rows b)
 
 -- train t occupies segment s
-abbrev pub occupies_of : Tables → ℕ → ℕ → Bool
-occupies_of tables t s = option_map_or (stands_on s) (slice_get tables.trains t) false
+abbrev pub occupies_of : Rows → ℕ → ℕ → Bool
+occupies_of rows t s = option_map_or (stands_on s) (slice_get rows.trains t) false
 
 -- train t is across box b, from one segment to the other
-abbrev pub across_of : Tables → ℕ → ℕ → ℕ → ℕ → Bool
-across_of tables t b from to = option_map_or (stands_across b from to) (slice_get tables.trains t) false
+abbrev pub across_of : Rows → ℕ → ℕ → ℕ → ℕ → Bool
+across_of rows t b from to = option_map_or (stands_across b from to) (slice_get rows.trains t) false
 
 -- the points of box b
-abbrev pub points_of : Tables → ℕ → Points
-points_of tables b = option_map_or (λ (x : BoxState). x.points) (slice_get tables.boxes b) points.Left
+abbrev pub points_of : Rows → ℕ → Points
+points_of rows b = option_map_or (λ (x : BoxState). x.points) (slice_get rows.boxes b) points.Left
 
 -- the steps that train t made
-abbrev pub made_of : Tables → ℕ → ℕ
-made_of tables t = option_map_or (λ (x : Standing). x.made) (slice_get tables.trains t) 0
+abbrev pub made_of : Rows → ℕ → ℕ
+made_of rows t = option_map_or (λ (x : Standing). x.made) (slice_get rows.trains t) 0
 
--- the world that the tables are
-abbrev pub world_of : NetworkPlan → Tables → World
-world_of net tables =
+-- the world that the rows are
+abbrev pub world_of : NetworkPlan → Rows → World
+world_of net rows =
     record {
-      occupies = occupies_of tables;
-      across = across_of tables;
-      holds = λ t s b. is_train t (holder_of net tables s b);
-      locked = locked_of tables;
-      points = points_of tables;
-      made = made_of tables;
+      occupies = occupies_of rows;
+      across = across_of rows;
+      holds = λ t s b. is_train t (holder_of net rows s b);
+      locked = locked_of rows;
+      points = points_of rows;
+      made = made_of rows;
     }
 
 -- a passage of a train on segment s leads over a box to another segment
@@ -85,9 +85,9 @@ pub record IsState (net : NetworkPlan) (b : ℕ) (x : BoxState) : Type 0 where
   pub holders : (i : ℕ) (u : TrainId) → holder_at x i ≡ Some u → u.0 < length net.trains
   pub free : (i : ℕ) → arms_of (kind_of net b) ≤ i → holder_at x i ≡ None
 
--- the tables are of that network
-pub record Fits (net : NetworkPlan) (tables : Tables) : Type 0 where
-  pub trains : length tables.trains ≡ length net.trains
-  pub boxes : length tables.boxes ≡ length net.boxes
-  pub standings : (t : ℕ) (x : Standing) → slice_get tables.trains t ≡ Some x → IsStanding net t x
-  pub states : (b : ℕ) (x : BoxState) → slice_get tables.boxes b ≡ Some x → IsState net b x
+-- the rows are of that network
+pub record Fits (net : NetworkPlan) (rows : Rows) : Type 0 where
+  pub trains : length rows.trains ≡ length net.trains
+  pub boxes : length rows.boxes ≡ length net.boxes
+  pub standings : (t : ℕ) (x : Standing) → slice_get rows.trains t ≡ Some x → IsStanding net t x
+  pub states : (b : ℕ) (x : BoxState) → slice_get rows.boxes b ≡ Some x → IsState net b x

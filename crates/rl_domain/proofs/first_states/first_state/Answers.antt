@@ -1,6 +1,6 @@
 use Rattle.std.proofs.Common.{refl}
 use Rattle.rl_domain.proofs.Lookups.{below_four}
-use Rattle.rl_domain.proofs.starts.first_state.Goals as goal
+use Rattle.rl_domain.proofs.first_states.first_state.Goals as goal
 
 pub returns : goal.returns
 returns c =

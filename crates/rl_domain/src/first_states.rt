@@ -1,10 +1,10 @@
 ghost use Rattle.std.specs.Prelude.{◌<◌, length, IfOk, Some, option_map};
-ghost use Rattle.rl_model.specs.Network.{segment_at};
+ghost use Rattle.rl_model.specs.Network.{segment_at, IsBoxOf, IsTrainOf};
 ghost use Rattle.rl_model.specs.World.{points_at};
 ghost use Rattle.std.specs.Prelude.{◌≡◌};
-ghost use Rattle.rl_domain.specs.Starts.{IsStarter, IsFirstStanding, IsFirstState, AreFirstStandings, AreFirstStates};
+ghost use Rattle.rl_domain.specs.FirstStates.{IsStarter, IsFirstStanding, IsFirstState, AreFirstStandings, AreFirstStates};
 
-use crate::tables::{BoxState, Standing};
+use crate::states::{BoxState, Standing};
 use rl_base::{Arm, BoxId, NoMemory, SegId, Side, TrainId};
 use rl_model::Points;
 use rl_net::Network;
@@ -34,7 +34,7 @@ fn starter(net: &Network, s: SegId) -> Option<TrainId>
 
 /// The train that starts on the segment at the arm of the box.
 fn holder_at_start(net: &Network, b: BoxId, x: Arm) -> Option<TrainId>
-    requires { b.0 < length net.now.boxes }
+    requires there { IsBoxOf net.now b }
     ensures { IsStarter net.now (segment_at net.now b.0 x.0) result }
 {
     match net.arm(b, x) {
@@ -44,7 +44,7 @@ fn holder_at_start(net: &Network, b: BoxId, x: Arm) -> Option<TrainId>
 }
 
 fn first_state(net: &Network, b: BoxId) -> BoxState
-    requires { b.0 < length net.now.boxes }
+    requires there { IsBoxOf net.now b }
     ensures { IsFirstState net.now b.0 result }
 {
     BoxState {
@@ -58,7 +58,7 @@ fn first_state(net: &Network, b: BoxId) -> BoxState
 }
 
 fn first_standing(net: &Network, t: TrainId) -> Standing
-    requires { t.0 < length net.now.trains }
+    requires there { IsTrainOf net.now t }
     ensures { IsFirstStanding net.now t.0 result }
 {
     Standing {

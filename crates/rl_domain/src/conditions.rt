@@ -2,9 +2,9 @@ ghost use Rattle.std.specs.Prelude.{◌≡◌, ℕ, ◌<◌, ◌↔◌, ◌≢�
 ghost use Rattle.rl_model.specs.Network.{has_end, can_connect, connects, steps_of, IsStep, IsTrainOf, IsSegmentOf, IsBoxOf};
 ghost use Rattle.rl_model.specs.World.{points_connect};
 ghost use Rattle.rl_model.specs.Moves.{IsFree, EachLockedPath, holds_ends};
-ghost use Rattle.rl_domain.specs.Tables.{world_of, holder_of, lock_of, locked_of, occupies_of, across_of, points_of, Fits};
+ghost use Rattle.rl_domain.specs.Rows.{world_of, holder_of, lock_of, locked_of, occupies_of, across_of, points_of, Fits};
 
-use crate::tables::{PathLock, is_lock, is_lock_of, is_train};
+use crate::states::{PathLock, is_lock, is_lock_of, is_train};
 use crate::world::World;
 use rl_base::{BoxId, SegId, Side, TrainId};
 use rl_model::Points;
@@ -12,8 +12,7 @@ use rl_net::Network;
 
 /// Whether the segment has an end at the box.
 pub(crate) fn has_end(net: &Network, s: SegId, b: BoxId) -> bool
-    requires segment { IsSegmentOf net.now s }
-    requires at { IsBoxOf net.now b }
+    requires there { IsSegmentOf net.now s × IsBoxOf net.now b }
     ensures { result ≡ has_end net.now s.0 b.0 }
 {
     net.arm_of(b, s).is_some()
@@ -21,9 +20,7 @@ pub(crate) fn has_end(net: &Network, s: SegId, b: BoxId) -> bool
 
 /// Whether some side of the box connects the segments.
 pub(crate) fn can_connect(net: &Network, b: BoxId, s: SegId, s2: SegId) -> bool
-    requires at { IsBoxOf net.now b }
-    requires from { IsSegmentOf net.now s }
-    requires to { IsSegmentOf net.now s2 }
+    requires there { IsBoxOf net.now b × IsSegmentOf net.now s × IsSegmentOf net.now s2 }
     ensures { result ≡ can_connect net.now b.0 s.0 s2.0 }
 {
     net.connects(b, s, s2, Side::Left) || net.connects(b, s, s2, Side::Right)
@@ -31,9 +28,7 @@ pub(crate) fn can_connect(net: &Network, b: BoxId, s: SegId, s2: SegId) -> bool
 
 /// Whether points that stand so connect the segments at the box.
 pub(crate) fn points_connect(net: &Network, b: BoxId, s: SegId, s2: SegId, points: Points) -> bool
-    requires at { IsBoxOf net.now b }
-    requires from { IsSegmentOf net.now s }
-    requires to { IsSegmentOf net.now s2 }
+    requires there { IsBoxOf net.now b × IsSegmentOf net.now s × IsSegmentOf net.now s2 }
     ensures { result ≡ points_connect net.now b.0 s.0 s2.0 points }
 {
     match points {
@@ -45,7 +40,7 @@ pub(crate) fn points_connect(net: &Network, b: BoxId, s: SegId, s2: SegId, point
 
 /// Whether step `k` of the train's route is from `s` through the box to `s2`.
 fn is_step(net: &Network, t: TrainId, k: u32, b: BoxId, s: SegId, s2: SegId) -> bool
-    requires train { IsTrainOf net.now t }
+    requires there { IsTrainOf net.now t }
     requires step { k < steps_of net.now t.0 }
     requires few { k < 64 }
     ensures { IsTrue result ↔ IsStep net.now t.0 k s.0 b.0 s2.0 }
@@ -60,8 +55,7 @@ impl World {
     /// Who holds the segment at the box.
     pub(crate) fn holder(&self, net: &Network, s: SegId, b: BoxId) -> Option<TrainId>
         requires fits { Fits net.now self.now }
-        requires segment { IsSegmentOf net.now s }
-        requires at { IsBoxOf net.now b }
+        requires there { IsSegmentOf net.now s × IsBoxOf net.now b }
         ensures { result ≡ holder_of net.now self.now s.0 b.0 }
     {
         match net.arm_of(b, s) {
@@ -88,8 +82,7 @@ impl World {
     /// Whether nobody holds the segment at the box.
     pub(crate) fn is_free(&self, net: &Network, s: SegId, b: BoxId) -> bool
         requires fits { Fits net.now self.now }
-        requires segment { IsSegmentOf net.now s }
-        requires at { IsBoxOf net.now b }
+        requires there { IsSegmentOf net.now s × IsBoxOf net.now b }
         ensures { IsTrue result ↔ IsFree (world_of net.now self.now) s.0 b.0 }
     {
         self.holder(net, s, b).is_none()
@@ -97,8 +90,7 @@ impl World {
 
     pub(crate) fn holds(&self, net: &Network, t: TrainId, s: SegId, b: BoxId) -> bool
         requires fits { Fits net.now self.now }
-        requires segment { IsSegmentOf net.now s }
-        requires at { IsBoxOf net.now b }
+        requires there { IsSegmentOf net.now s × IsBoxOf net.now b }
         ensures { result ≡ (world_of net.now self.now).holds t.0 s.0 b.0 }
     {
         is_train(t, self.holder(net, s, b))
@@ -107,7 +99,7 @@ impl World {
     /// Whether the train holds the segment at both its ends.
     pub(crate) fn holds_ends(&self, net: &Network, t: TrainId, s: SegId) -> bool
         requires fits { Fits net.now self.now }
-        requires segment { IsSegmentOf net.now s }
+        requires there { IsSegmentOf net.now s }
         ensures { result ≡ holds_ends (world_of net.now self.now) net.now t.0 s.0 }
     {
         // What acceptance gave, for the proof.
@@ -189,7 +181,7 @@ impl World {
     /// Whether the points don't connect the path for which the box is locked.
     pub(crate) fn points_bar_lock(&self, net: &Network, b: BoxId) -> bool
         requires fits { Fits net.now self.now }
-        requires at { IsBoxOf net.now b }
+        requires there { IsBoxOf net.now b }
         ensures { let w = world_of net.now self.now in
             IsTrue result
             ↔ EachLockedPath w b.0 (λ from to. points_connect net.now b.0 from to (w.points b.0)) false }
@@ -203,7 +195,7 @@ impl World {
     /// Whether the side connects the path for which the box is locked.
     pub(crate) fn side_fits_lock(&self, net: &Network, b: BoxId, side: Side) -> bool
         requires fits { Fits net.now self.now }
-        requires at { IsBoxOf net.now b }
+        requires there { IsBoxOf net.now b }
         ensures { let w = world_of net.now self.now in
             IsTrue result ↔ EachLockedPath w b.0 (λ from to. connects net.now b.0 from to side) true }
     {
@@ -223,7 +215,7 @@ impl World {
         s2: SegId,
     ) -> bool
         requires fits { Fits net.now self.now }
-        requires train { IsTrainOf net.now t }
+        requires there { IsTrainOf net.now t }
         ensures { let made = (world_of net.now self.now).made t.0 in
             IsTrue result ↔ ((made < steps_of net.now t.0) × IsStep net.now t.0 made s.0 b.0 s2.0) }
     {
