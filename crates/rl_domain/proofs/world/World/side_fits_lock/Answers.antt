@@ -6,7 +6,7 @@ use Rattle.rl_domain.proofs.world.World.side_fits_lock.Goals as goal
 pub connects-requires : goal.connects-requires
 connects-requires c =
     let l = lock_in_range _ _ _ c.in-Some.l c.requires.fits (sym c.in-Some.ensures) in
-    (c.requires.there, l.from, l.to)
+    record { there = (c.requires.there, l.from, l.to) }
 
 pub returns-in-Some : goal.returns-in-Some
 returns-in-Some c =
