@@ -3,10 +3,10 @@ ghost use Rattle.rl_base.specs.declared.ids.TrainId.{TrainId};
 ghost use Rattle.rl_model.specs.declared.moves.Move.TheVariants as move;
 ghost use Rattle.rl_model.specs.Moves.{guards, IsMoveOf};
 ghost use Rattle.rl_model.specs.Network.{IsTrainOf, IsSegmentOf, IsBoxOf};
-ghost use Rattle.rl_domain.specs.Tables.{world_of, Fits};
+ghost use Rattle.rl_domain.specs.Rows.{world_of, Fits};
 ghost use Rattle.rl_domain.specs.Applies.{Tests};
 
-use crate::facts::{can_connect, has_end, points_connect};
+use crate::conditions::{can_connect, has_end, points_connect};
 use crate::world::{Guard, World};
 use rl_base::{BoxId, SegId, Side, TrainId};
 use rl_model::{Move, Points};
@@ -23,8 +23,7 @@ fn guard(number: u32, holds: bool) -> Result<(), Guard>
 impl World {
     fn test_reserve(&self, net: &Network, s: SegId, b: BoxId) -> Result<(), Guard>
         requires fits { Fits net.now self.now }
-        requires segment { IsSegmentOf net.now s }
-        requires at { IsBoxOf net.now b }
+        requires there { IsSegmentOf net.now s × IsBoxOf net.now b }
         ensures { (t : TrainId) → Tests (guards net.now (world_of net.now self.now) (move.Reserve t s b)) result }
     {
         guard(1, has_end(net, s, b))?;
@@ -33,9 +32,7 @@ impl World {
 
     fn test_release(&self, net: &Network, t: TrainId, s: SegId, b: BoxId) -> Result<(), Guard>
         requires fits { Fits net.now self.now }
-        requires train { IsTrainOf net.now t }
-        requires segment { IsSegmentOf net.now s }
-        requires at { IsBoxOf net.now b }
+        requires there { IsTrainOf net.now t × IsSegmentOf net.now s × IsBoxOf net.now b }
         ensures { Tests (guards net.now (world_of net.now self.now) (move.Release t s b)) result }
     {
         guard(3, has_end(net, s, b))?;
@@ -52,9 +49,7 @@ impl World {
         s2: SegId,
     ) -> Result<(), Guard>
         requires fits { Fits net.now self.now }
-        requires at { IsBoxOf net.now b }
-        requires from { IsSegmentOf net.now s }
-        requires to { IsSegmentOf net.now s2 }
+        requires there { IsBoxOf net.now b × IsSegmentOf net.now s × IsSegmentOf net.now s2 }
         ensures { Tests (guards net.now (world_of net.now self.now) (move.Lock t b s s2)) result }
     {
         guard(6, s != s2 && has_end(net, s, b) && has_end(net, s2, b))?;
@@ -65,8 +60,7 @@ impl World {
 
     fn test_unlock(&self, net: &Network, t: TrainId, b: BoxId) -> Result<(), Guard>
         requires fits { Fits net.now self.now }
-        requires train { IsTrainOf net.now t }
-        requires at { IsBoxOf net.now b }
+        requires there { IsTrainOf net.now t × IsBoxOf net.now b }
         ensures { Tests (guards net.now (world_of net.now self.now) (move.Unlock t b)) result }
     {
         guard(10, self.has_lock_of(b, t))?;
@@ -75,7 +69,7 @@ impl World {
 
     fn test_throw(&self, net: &Network, b: BoxId) -> Result<(), Guard>
         requires fits { Fits net.now self.now }
-        requires at { IsBoxOf net.now b }
+        requires there { IsBoxOf net.now b }
         ensures { Tests (guards net.now (world_of net.now self.now) (move.Throw b)) result }
     {
         guard(12, self.has_lock(b) && self.points(b) != Points::Moving)?;
@@ -84,7 +78,7 @@ impl World {
 
     fn test_settle(&self, net: &Network, b: BoxId, side: Side) -> Result<(), Guard>
         requires fits { Fits net.now self.now }
-        requires at { IsBoxOf net.now b }
+        requires there { IsBoxOf net.now b }
         ensures { Tests (guards net.now (world_of net.now self.now) (move.Settle b side)) result }
     {
         guard(14, self.has_lock(b) && self.points(b) == Points::Moving)?;
@@ -100,10 +94,7 @@ impl World {
         s2: SegId,
     ) -> Result<(), Guard>
         requires fits { Fits net.now self.now }
-        requires train { IsTrainOf net.now t }
-        requires at { IsBoxOf net.now b }
-        requires from { IsSegmentOf net.now s }
-        requires to { IsSegmentOf net.now s2 }
+        requires there { IsTrainOf net.now t × IsBoxOf net.now b × IsSegmentOf net.now s × IsSegmentOf net.now s2 }
         ensures { Tests (guards net.now (world_of net.now self.now) (move.Enter t b s s2)) result }
     {
         guard(16, self.is_next_step(net, t, b, s, s2))?;
@@ -115,7 +106,7 @@ impl World {
 
     fn test_leave(&self, net: &Network, t: TrainId, s: SegId) -> Result<(), Guard>
         requires fits { Fits net.now self.now }
-        requires train { IsTrainOf net.now t }
+        requires there { IsTrainOf net.now t }
         ensures { Tests (guards net.now (world_of net.now self.now) (move.Leave t s)) result }
     {
         guard(21, self.comes_from(t, s))
@@ -130,8 +121,7 @@ impl World {
         u: TrainId,
     ) -> Result<(), Guard>
         requires fits { Fits net.now self.now }
-        requires segment { IsSegmentOf net.now s }
-        requires at { IsBoxOf net.now b }
+        requires there { IsSegmentOf net.now s × IsBoxOf net.now b }
         ensures { Tests (guards net.now (world_of net.now self.now) (move.Refuse t s b u)) result }
     {
         guard(22, has_end(net, s, b))?;
@@ -140,7 +130,7 @@ impl World {
 
     fn test_bar(&self, net: &Network, t: TrainId, b: BoxId, u: TrainId) -> Result<(), Guard>
         requires fits { Fits net.now self.now }
-        requires at { IsBoxOf net.now b }
+        requires there { IsBoxOf net.now b }
         ensures { Tests (guards net.now (world_of net.now self.now) (move.Bar t b u)) result }
     {
         guard(24, u != t && self.has_lock_of(b, u))

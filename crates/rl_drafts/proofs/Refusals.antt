@@ -1,8 +1,7 @@
 -- The search of a draft's refusals answers the plain sentence, and the plain sentence has one answer.
-use Rattle.std.proofs.Common.{◌≡◌, ℕ, ◌+◌, ◌<◌, ◌≤◌, Bool, true, false, cond, eqb, ◌&&◌, Option, Some, None, ◌⊎◌, inl, inr, refl, sym, ap, ap₂, ◌∙◌, subst, arith}
-use Rattle.std.proofs.lemmas.Bool.{both_ways, false≢true}
+use Rattle.std.proofs.Common.{◌≡◌, ℕ, ◌+◌, ◌<◌, ◌≤◌, true, false, Option, Some, None, ◌⊎◌, inl, inr, refl, sym, ap, ap₂, ◌∙◌, subst, arith}
+use Rattle.std.proofs.lemmas.Bool.{both_ways}
 use Rattle.std.proofs.lemmas.Bool.Decides.{nat_tests}
-use Rattle.std.specs.Option.{option_or, option_map}
 use Rattle.rl_base.specs.declared.place.Place.{Place}
 use Rattle.rl_base.specs.declared.place.Place.TheVariants as place
 use Rattle.rl_base.specs.declared.draft.Draft.{Draft}
@@ -87,6 +86,7 @@ from_5 d m q e = by_size (size m)
   where
     size : (m : ℕ) → (m < 5) ⊎ (5 ≤ m)
     size m = grind arith
+
     by_size : (m < 5) ⊎ (5 ≤ m) → 5 ≤ m
     by_size (inl l) = absurd (both_ways (breaks d m q) (none_else d m q (inl l)) e)
     by_size (inr l) = l
@@ -103,8 +103,10 @@ first_refusal-none d e = λ m q. at m q (from_or_below m)
   where
     from_or_below : (m : ℕ) → (m < 5) ⊎ (5 ≤ m)
     from_or_below m = grind arith
+
     a : (m : ℕ) (q : Place) → 5 ≤ m → breaks d m q ≡ false
     a = subst (λ (o : Option Refusal). AnswersFrom d 5 o) e (refusal_answers d)
+
     at : (m : ℕ) (q : Place) → (m < 5) ⊎ (5 ≤ m) → breaks d m q ≡ false
     at m q (inl l) = none_else d m q (inl l)
     at m q (inr l) = a m q l

@@ -1,5 +1,5 @@
 -- The first refusal of a draft as a search: rule by rule, and place by place in the order of places.
-use Rattle.std.specs.Prelude.{ℕ, zero, suc, if◌then◌else◌, List, [], ◌∷◌, length, slice_get, Option, Some, None}
+use Rattle.std.specs.Prelude.{ℕ, zero, suc, if◌then◌else◌, length, slice_get, Option, Some, None}
 use Rattle.std.specs.Option.{option_map_or, option_or, option_map}
 use Rattle.rl_base.specs.declared.place.Place.{Place}
 use Rattle.rl_base.specs.declared.place.Place.TheVariants as place
@@ -68,11 +68,10 @@ pub record Refusal : Type 0 where
 abbrev pub refuse : ℕ → Option Place → Option Refusal → Option Refusal
 refuse n first rest = option_or (option_map (λ p. record { number = n; place = p }) first) rest
 
-abbrev pub first_refusal : Draft → Option Refusal
-first_refusal d =
-    refuse 5 (first_count d)
-    (refuse 6 (first_twice d)
-    (refuse 7 (among_boxes d 7 place.BoxArms)
+-- the first refusal by a rule from 7 on
+abbrev pub later_refusal : Draft → Option Refusal
+later_refusal d =
+    refuse 7 (among_boxes d 7 place.BoxArms)
     (refuse 8 (among_arms d 8)
     (refuse 9 (among_arms d 9)
     (refuse 10 (among_segments d 10)
@@ -80,4 +79,8 @@ first_refusal d =
     (refuse 12 (among_trains d 12 place.TrainRoute)
     (refuse 13 (among_route_places d 13)
     (refuse 14 (among_route_places d 14)
-    (refuse 15 (among_route_places d 15) None))))))))))
+    (refuse 15 (among_route_places d 15) None))))))))
+
+-- the first refusal
+abbrev pub first_refusal : Draft → Option Refusal
+first_refusal d = refuse 5 (first_count d) (refuse 6 (first_twice d) (later_refusal d))

@@ -2,4 +2,4 @@ pub mod Sizes
 pub mod Ends
 pub mod NetRefusals
 pub mod NameTables
-pub mod Indexes
+pub mod NamedNetwork

@@ -86,7 +86,7 @@ fn put_move(out: &mut Out, net: &Network, m: Move) -> Result<(), NoMemory>
 
 /// Appends the line of a train's outcome.
 fn put_outcome(out: &mut Out, net: &Network, t: TrainId, outcome: Outcome) -> Result<(), NoMemory>
-    requires { IsTrainOf net.now t }
+    requires there { IsTrainOf net.now t }
     ensures { OnOk result (out.new ≡ out.old ++ outcome_line net.now t.0 outcome) }
 {
     out.text(b"train")?;

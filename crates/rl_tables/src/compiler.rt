@@ -70,7 +70,7 @@ fn span_from(net: &Network, b: BoxId, s: SegId) -> Span
 /// The row of step `k` of the train.
 fn step_row(net: &Network, t: TrainId, k: u32) -> StepRow
     requires network { IsNetwork net.now }
-    requires train { IsTrainOf net.now t }
+    requires there { IsTrainOf net.now t }
     requires step { k < steps_of net.now t.0 }
     ensures { IsStepRow net.now t.0 k result }
 {
@@ -94,7 +94,7 @@ fn step_row(net: &Network, t: TrainId, k: u32) -> StepRow
 
 fn step_rows(alloc: Global, net: &Network, t: TrainId) -> Result<StepRows, NoMemory>
     requires network { IsNetwork net.now }
-    requires train { IsTrainOf net.now t }
+    requires there { IsTrainOf net.now t }
     ensures { IfOk result (IsListOf (steps_of net.now t.0) (IsStepRow net.now t.0)) }
 {
     let mut rows = StepRows::new(alloc);
@@ -106,7 +106,7 @@ fn step_rows(alloc: Global, net: &Network, t: TrainId) -> Result<StepRows, NoMem
 
 fn train_table(alloc: Global, net: &Network, t: TrainId) -> Result<TrainTable, NoMemory>
     requires network { IsNetwork net.now }
-    requires train { IsTrainOf net.now t }
+    requires there { IsTrainOf net.now t }
     ensures { IfOk result (IsTrainTable net.now t.0) }
 {
     Ok(TrainTable {

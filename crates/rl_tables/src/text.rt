@@ -49,7 +49,7 @@ fn put_arm(
 
 /// Appends the line that names a box.
 fn put_box_line(out: &mut Out, net: &Network, x: &BoxTable) -> Result<(), NoMemory>
-    requires { IsBoxOf net.now x.now.number }
+    requires there { IsBoxOf net.now x.now.number }
     ensures { OnOk result (out.new ≡ out.old ++ box_line net.now x.now) }
 {
     out.text(b"box")?;
@@ -77,7 +77,7 @@ fn put_box(out: &mut Out, net: &Network, line: &Line, x: &BoxTable) -> Result<()
 
 /// Appends the name of a box and the number of an arm.
 fn put_end(out: &mut Out, net: &Network, b: BoxId, arm: Arm) -> Result<(), NoMemory>
-    requires { IsBoxOf net.now b }
+    requires there { IsBoxOf net.now b }
     ensures { OnOk result (out.new ≡ out.old ++ 32 ∷ box_name net.now b.0 ++ 32 ∷ decimal arm.0) }
 {
     out.word(net.box_name(b))?;
@@ -86,7 +86,7 @@ fn put_end(out: &mut Out, net: &Network, b: BoxId, arm: Arm) -> Result<(), NoMem
 
 /// Appends the box that the row passes and the two arms there.
 fn put_passage(out: &mut Out, net: &Network, row: &StepRow) -> Result<(), NoMemory>
-    requires { IsBoxOf net.now row.now.b }
+    requires there { IsBoxOf net.now row.now.b }
     ensures { OnOk result (out.new ≡ out.old ++ 32 ∷ box_name net.now row.now.b.0 ++ 32 ∷ decimal row.now.x.0 ++ 32 ∷ decimal row.now.y.0) }
 {
     put_end(out, net, row.b, row.x)?;
