@@ -1,0 +1,4 @@
+pub mod AppLemmas
+pub mod Rows
+pub mod Walking
+pub mod Commands
