@@ -2,3 +2,5 @@ pub mod AppLemmas
 pub mod Rows
 pub mod Walking
 pub mod Commands
+pub mod Forms
+pub mod FormReads

@@ -1,9 +1,10 @@
 -- How clap walks over options with their values.
-use Rattle.std.proofs.Common.{◌≡◌, ◌∙◌, ◌&&◌, ◌||◌, ℕ, Bool, true, false, cond, not, subst, List, [], ◌∷◌, ◌++◌, map, Option, Some, None, refl, sym, ap, ap₂, append-nil, append_assoc, true≢false}
+use Rattle.std.proofs.Common.{◌≡◌, ◌∙◌, ◌&&◌, ◌||◌, ℕ, Bool, true, false, cond, not, subst, List, [], ◌∷◌, ◌++◌, map, Option, Some, None, refl, sym, ap, ap₂, append-nil, append_assoc, true≢false, min, ◌+◌, ◌==◌}
 use Rattle.std.specs.Prelude.{bytes_eq}
 use Rattle.std.specs.List.{flat_map, fold, list_all, list_any}
-use Rattle.clap.specs.Walk.{Held, Row, Rule, Walk, Text, default_rows, finished, has_row, idle, is_empty, nothing_held, option, reading_by, rows_after, settled_rows, walk, walk_from, walked, with_default, with_values, without}
-use Rattle.clap.specs.Simple.{Shape}
+use Rattle.clap.specs.Walk.{Held, Row, Rule, Walk, Text, arg_by_id, arg_by_index, is_pending, most_values, default_rows, finished, has_row, idle, is_empty, nothing_held, option, reading_by, rows_after, settled_rows, walk, walk_from, walked, with_default, with_values, without}
+use Rattle.clap.specs.Simple.{Shape, filled, new_rule, with_index}
+use Rattle.clap.specs.Lexer.{usize_max}
 use Rattle.clap.specs.Takes.{default_passes, is_valid, level_passes, settle_passes, turn_passes, walk_passes}
 use Rattle.clap.specs.declared.parser.matches.ValueSource.TheVariants.{CommandLine}
 use Rattle.clap.specs.declared.builder.value_parser.Reading.TheVariants.{AsWritten}
@@ -14,6 +15,14 @@ use Rattle.std.proofs.lemmas.List.{map-append}
 use Rattle.std.proofs.lemmas.List.Folds.{list_any-append}
 use Rattle.clap.proofs.SimpleLemmas.{is_nil}
 use Rattle.rl_cli.proofs.Rows.{as_row, bytes_eq-sym, has_row-map, is_not, neither, put_new}
+
+and_false : (b : Bool) → (b && false) ≡ false
+and_false true = refl
+and_false false = refl
+
+-- a positional of a built command
+abbrev pub positional_rule : Text → ℕ → Rule
+positional_rule id i = with_index i (filled (new_rule id))
 
 abbrev pub Pending : Type 0
 Pending = Option (Text × List Text)
@@ -121,6 +130,34 @@ options_found s i rows pending before (p ∷ rest) settled settles options new o
     (first_word s (standing rows pending i) (awaiting now p.0 i) p.0 (p.1 ∷ flat_map two_words rest) ((before ++ p ∷ []) ++ rest) i
     (option.named rows pending i) (option.named_passes rows pending i settles) value)
 
+-- ---- the steps of the walk at a word that doesn't begin with -
+
+module _ (b : ℕ) (rest : Text) (no : (b == 45) ≡ false) where
+  -- the value of an option
+  pub value_walked : (c : List Rule) (name : Text) (a : Rule) (rows : List Row) (i : ℕ) → arg_by_id c name ≡ Some a → bytes_eq name a.id ≡ true → most_values a ≡ 1
+      → walked c [] (awaiting rows name i) (b ∷ rest) ≡ standing rows (Some (name, (b ∷ rest) ∷ [])) i
+  unfolding walked
+  value_walked c name a rows i at same one = rw no (rw no (rw at (rw (same, one) refl)))
+
+  pub value_passes : (s : Shape) (name : Text) (rows : List Row) (i : ℕ) → turn_passes s [] (awaiting rows name i) (b ∷ rest) ≡ true
+  unfolding walked
+  value_passes s name rows i = rw no (rw no refl)
+
+  -- a positional
+  pub positional_walked : (c : List Rule) (id : Text) (rows : List Row) (p : Pending) (i : ℕ) → arg_by_index c i ≡ Some (positional_rule id i)
+      → walked c [] (standing rows p i) (b ∷ rest) ≡ standing (settled_rows c p rows) (Some (id, (b ∷ rest) ∷ [])) (min (i + 1) usize_max)
+  unfolding walked
+  positional_walked c id rows p i at =
+      let none : (is_pending (positional_rule id i) p && false) ≡ false = and_false (is_pending (positional_rule id i) p) in
+      rw no (rw no (rw at (rw none refl)))
+
+  pub positional_passes_at : (s : Shape) (id : Text) (rows : List Row) (p : Pending) (i : ℕ) → arg_by_index s.rules i ≡ Some (positional_rule id i)
+      → settle_passes s.rules s.args_override_self (held rows p) ≡ true → turn_passes s [] (standing rows p i) (b ∷ rest) ≡ true
+  unfolding walked
+  positional_passes_at s id rows p i at settles =
+      let none : (is_pending (positional_rule id i) p && false) ≡ false = and_false (is_pending (positional_rule id i) p) in
+      rw no (rw no (rw at (rw (none, settles) refl)))
+
 -- ---- a whole parse
 
 -- nothing stands in place of an argument that isn't given, and none must be
@@ -144,7 +181,7 @@ defaults_stay (a ∷ rules) rows e =
     let h = both (is_empty a.defaults) _ e in
     ap (λ r. fold with_default r rules) (default_stays rows a h.0) ∙ defaults_stay rules rows h.1
 
-conj : (a b : Bool) → a ≡ true → b ≡ true → (a && b) ≡ true
+pub conj : (a b : Bool) → a ≡ true → b ≡ true → (a && b) ≡ true
 conj true b e f = f
 conj false b e f = e
 

@@ -12,9 +12,10 @@ pub mod limits;
 mod matches;
 pub mod order;
 mod orders;
+pub mod parser;
 
 mod written;
 
 pub use fault::CliFault;
 pub use order::Order;
-
+pub use parser::parse;

@@ -1,6 +1,7 @@
-ghost use Rattle.std.specs.Prelude.{◌≡◌, ◌<◌, ◌^◌, Some, None, true, false, map, option_map, IfOk, IfErr};
+ghost use Rattle.std.specs.Prelude.{◌≡◌, ◌<◌, ◌^◌, Some, None, true, false, map, option_map, IfSome, IfOk, IfErr};
 ghost use Rattle.clap.specs.Words.{app_of, rule_of, takes, first_value, found_of, HasMatchesOf};
 ghost use Rattle.rl_cli.specs.Words.{number};
+ghost use Rattle.rl_cli.specs.Tests.{Answers};
 ghost use Rattle.rl_cli.specs.Apps.{rule_for, app_with};
 
 use crate::fault::CliFault;
@@ -77,8 +78,7 @@ pub fn texts_of(alloc: Global, words: &[Text]) -> Result<Vec<&str>, AllocError>
 
 /// A copy of the word that was read as this argument.
 pub fn text_at(alloc: Global, matches: &ArgMatches<'_>, id: &str) -> Result<Text, CliFault>
-    ensures ok { IfOk result (λ text. first_value (found_of matches.now) id.now ≡ Some text) }
-    ensures err { IfErr result (λ e. e ≡ CliFault.Usage → first_value (found_of matches.now) id.now ≡ None) }
+    ensures { Answers (first_value (found_of matches.now) id.now) result }
 {
     match matches.get_str(id) {
         Some(word) => Ok(Text::of(alloc, word)?),
@@ -98,6 +98,7 @@ fn number(word: &str) -> u32
 
 /// The number that was read as this argument, if it was given.
 pub fn number_at(matches: &ArgMatches<'_>, id: &str) -> Option<u32>
+    ensures { IfSome (first_value (found_of matches.now) id.now) (λ word. number word < 2 ^ 32) → result ≡ option_map number (first_value (found_of matches.now) id.now) }
 {
     matches.get_str(id).map(|word| number(word))
 }

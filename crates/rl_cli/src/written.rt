@@ -91,6 +91,7 @@ fn are_there(flags: &[Flag], words: &[Text]) -> bool
 
 /// Whether the words after a command's name are the positionals and then options, of which those that are
 /// needed are there.
+#[tactic(auto, unfolding(crate::specs::Tests::is_after_name))]
 pub fn is_written(positionals: &[Item], options: &[Flag], needs: &[Flag], words: &[Text]) -> bool
     ensures { result ≡ is_after_name positionals.now options.now needs.now words.now }
 {

@@ -1,0 +1,34 @@
+ghost use Rattle.std.specs.Prelude.{◌<◌, length, drop};
+ghost use Rattle.rl_cli.specs.Tests.{Answers, order_named, order_of};
+
+use crate::fault::CliFault;
+use crate::order::Order;
+use crate::orders::{audit_order, check_order, drive_order, make_order, run_order, tables_order};
+use rl_base::{Args, Text};
+use std::alloc::Global;
+
+/// The order of a command line that begins with this name.
+fn order_for(alloc: Global, name: &str, words: &[Text]) -> Result<Order, CliFault>
+    requires { 0 < length words.now }
+    ensures { Answers (order_named name.now (drop 1 words.now)) result }
+{
+    match name {
+        "check" => check_order(alloc, words),
+        "tables" => tables_order(alloc, words),
+        "drive" => drive_order(alloc, words),
+        "run" => run_order(alloc, words),
+        "audit" => audit_order(alloc, words),
+        "make" => make_order(alloc, words),
+        _ => Err(CliFault::Usage),
+    }
+}
+
+/// The order that the words of a command line give. The words don't include the program's own name.
+pub fn parse(alloc: Global, words: &Args) -> Result<Order, CliFault>
+    ensures { Answers (order_of words.now) result }
+{
+    match words.as_slice() {
+        [] => Err(CliFault::Usage),
+        [name, ..] => order_for(alloc, name.as_str(), words.as_slice()),
+    }
+}
