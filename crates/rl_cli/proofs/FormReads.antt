@@ -1,9 +1,10 @@
 -- What is found at the words of each form.
-use Rattle.std.proofs.Common.{◌≡◌, ◌∙◌, ◌&&◌, ◌||◌, ℕ, Bool, true, false, List, [], ◌∷◌, drop, take, length, map, Option, Some, None, Err, refl, sym, ap, true≢false, codes, nat_le}
+use Rattle.std.proofs.Common.{◌≡◌, ◌∙◌, ◌&&◌, ◌||◌, ℕ, Bool, true, false, List, [], ◌∷◌, drop, take, length, map, Option, Some, None, Result, Ok, Err, IsErrAnd, subst, refl, sym, ap, true≢false, codes, nat_le}
 use Rattle.std.specs.List.{list_all}
 use Rattle.std.specs.Prelude.{bytes_eq, slice_get, unwrap_or, not}
 use Rattle.clap.specs.Walk.{Text, arg_by_index, first_of, rows_of}
 use Rattle.clap.specs.Simple.{HasMatchesOf, is_simple}
+use Rattle.clap.specs.Takes.{takes}
 use Rattle.clap.specs.Matches.{first_value, found_of}
 use Rattle.clap.specs.declared.parser.matches.ArgMatches.{ArgMatches}
 use Rattle.clap.proofs.WalkLemmas.{both, first_value-rows}
@@ -34,9 +35,28 @@ or_right true b e = refl
 or_right false b e = e
 
 -- a fault at something that is there is one of memory
-pub fault_stays : {T U : Type 0} (t : T) (u : U) (e : CliFault) → Answers (Some t) (Err e) → Answers (Some u) (Err e)
-fault_stays t u Usage answers = cc
-fault_stays t u NoMemory answers = tt
+pub fault_at : {T U : Type 0} (u : U) (found : Option T) (t : T) (e : CliFault) → found ≡ Some t → Answers found (Err e) → Answers (Some u) (Err e)
+fault_at u found t Usage is answers = cc
+fault_at u found t NoMemory is answers = tt
+
+-- the same through `?`
+pub passed_on : {T : Type 0} (r : Result T CliFault) (u : T) (e : CliFault) → IsErrAnd r (λ y. y ≡ e) → Answers {T = T} (Some u) (Err e) → Answers (Some u) r
+passed_on (Ok x) u e is answers = absurd is
+passed_on (Err y) u e is answers = subst (λ (z : CliFault). Answers (Some u) (Err z)) (sym is) answers
+
+-- the command takes the words of the form, so it fails for memory alone
+pub fails_for_memory : {U : Type 0} (u : U) (ids ids' : List Text) (flags flags' : List Flag) (words words' : List Text) (given : List (Text × Text)) (e : CliFault)
+    → ids' ≡ ids → flags' ≡ flags → words' ≡ words → Reads ids flags words given → (takes (app_with ids' flags') words' ≡ true → e ≡ NoMemory) → Answers (Some u) (Err e)
+fails_for_memory {U} u ids ids' flags flags' words words' given e a b w reads fails =
+    subst (λ (z : CliFault). Answers {T = U} (Some u) (Err z)) (sym (fails ((λ i. takes (app_with (a i) (b i)) (w i)) ∙ reads.takes))) tt
+
+-- what a getter gives, where the command is as it is
+pub value_read : (ids ids' : List Text) (flags flags' : List Flag) (words words' : List Text) (given : List (Text × Text)) (m : ArgMatches)
+    → ids' ≡ ids → flags' ≡ flags → words' ≡ words → Reads ids flags words given → is_simple (app_with ids flags) ≡ true → HasMatchesOf (app_with ids' flags') words' m
+    → (id : Text) → first_value (found_of m) id ≡ lookup id given
+value_read ids ids' flags flags' words words' given m a b w reads simple has =
+    value_found ids flags words given m reads simple (subst (λ (ws : List Text). HasMatchesOf (app_with ids flags) ws m) w
+    (subst (λ (fs : List Flag). HasMatchesOf (app_with ids fs) words' m) b (subst (λ (xs : List Text). HasMatchesOf (app_with xs flags') words' m) a has)))
 
 -- ---- the parts of a form's words
 

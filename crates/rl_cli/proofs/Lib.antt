@@ -4,3 +4,4 @@ pub mod Walking
 pub mod Commands
 pub mod Forms
 pub mod FormReads
+pub mod Numbers
