@@ -1,5 +1,5 @@
 -- What is found at the words of each form.
-use Rattle.std.proofs.Common.{◌≡◌, ◌∙◌, ◌&&◌, ◌||◌, ℕ, Bool, true, false, List, [], ◌∷◌, drop, take, length, map, Option, Some, None, Result, Ok, Err, IsErrAnd, subst, refl, sym, ap, true≢false, codes, nat_le}
+use Rattle.std.proofs.Common.{◌≡◌, ◌∙◌, ◌&&◌, ◌||◌, ℕ, Bool, true, false, List, [], ◌∷◌, drop, take, length, map, Option, Some, None, Result, Ok, Err, IsErrAnd, subst, IfSome, lit<, ◌<◌, ◌^◌, refl, sym, ap, true≢false, codes, nat_le}
 use Rattle.std.specs.List.{list_all}
 use Rattle.std.specs.Prelude.{bytes_eq, slice_get, unwrap_or, not}
 use Rattle.clap.specs.Walk.{Text, arg_by_index, first_of, rows_of}
@@ -8,8 +8,8 @@ use Rattle.clap.specs.Takes.{takes}
 use Rattle.clap.specs.Matches.{first_value, found_of}
 use Rattle.clap.specs.declared.parser.matches.ArgMatches.{ArgMatches}
 use Rattle.clap.proofs.WalkLemmas.{both, first_value-rows}
-use Rattle.rl_cli.specs.Words.{is_plain, fits}
-use Rattle.rl_cli.specs.Table.{Form, item_of, name_of, audit, check, drive, make, rounds, run, rounds_asked, stations_asked, word}
+use Rattle.rl_cli.specs.Words.{fits, number}
+use Rattle.rl_cli.specs.Table.{Form, item_of, name_of, audit, check, drive, make, rounds, run, rounds_asked, schedule_of, stations_asked, value, word}
 use Rattle.rl_cli.specs.Written.{fit, has_option, is_option_of}
 use Rattle.rl_cli.specs.Tests.{Answers, are_options, given_in, is_after_name, is_in, pairs}
 use Rattle.rl_cli.specs.Apps.{app_with}
@@ -22,6 +22,7 @@ use Rattle.rl_cli.specs.declared.fault.CliFault.TheVariants.{Usage, NoMemory}
 use Rattle.rl_cli.proofs.Rows.{first_of-map, lookup}
 use Rattle.rl_cli.proofs.Walking.{IsArgument, IsLoose, conj, positional_rule}
 use Rattle.rl_cli.proofs.Forms.{AreNoFlags, HasOptions, fits_plain, one_found, two_found}
+use Rattle.rl_cli.proofs.Numbers.{first_fits, number_small, numbers_small, option_value_fits, second_fits, there}
 use Rattle.rl_cli.proofs.Commands.{Reads, drive_flags, drive_ids, drive_loose, drive_schedule, drive_shape, drive_simple, drive_tries, one_loose, one_simple, parse_reads, run_flags, run_ids, run_loose, run_round, run_shape, run_simple, run_tries, run_workers, shape_with, two_loose, two_simple}
 
 -- what the getters give
@@ -204,3 +205,46 @@ make_reads (name ∷ n ∷ words) e =
     let f = both (fits stations_asked n) _ p.positionals in
     parse_reads (codes "N" ∷ []) [] name (n ∷ words) ((codes "N", n) ∷ pairs words) _ (one_simple (codes "N")) (one_loose (codes "N"))
     (one_found (shape_with (codes "N" ∷ []) []) (codes "N") [] n words refl make_n refl tt (make_no_flags n) (fits_plain stations_asked n f.0) p.options)
+
+-- ---- the numbers of the forms, and what must be there
+
+abbrev pub IsSmall : Text → Type 0
+IsSmall w = number w < 2 ^ 32
+
+pub small_as : (found o : Option Text) → found ≡ o → IfSome o IsSmall → IfSome found IsSmall
+small_as found o is small = subst (λ (x : Option Text). IfSome x IsSmall) (sym is) small
+
+pub rounds_numbers : (words : List Text) → is_in rounds words ≡ true
+    → IsSmall (word (given_in rounds (drop 1 words)) 1) × IfSome (value (given_in rounds (drop 1 words)) Tries) IsSmall
+rounds_numbers words e =
+    let p = parts (File ∷ rounds_asked ∷ []) (Tries ∷ []) [] (drop 1 words) e in
+    (
+      number_small 0 1000000 _ (lit< tt) (second_fits File rounds_asked (take 2 (drop 1 words)) p.positionals),
+      numbers_small 1 1000 _ (lit< tt) (option_value_fits (Tries ∷ []) (drop 2 (drop 1 words)) Tries p.options),
+    )
+
+pub drive_numbers : (words : List Text) → is_in drive words ≡ true
+    → (value (given_in drive (drop 1 words)) Schedule ≡ Some (schedule_of (given_in drive (drop 1 words))))
+    × IfSome (value (given_in drive (drop 1 words)) Tries) IsSmall
+drive_numbers words e =
+    let p = parts (File ∷ []) drive_flags (Schedule ∷ []) (drop 1 words) e in
+    (
+      there (name_of Schedule) (pairs (drop 1 (drop 1 words))) (both _ _ p.needed).0,
+      numbers_small 1 1000 _ (lit< tt) (option_value_fits drive_flags (drop 1 (drop 1 words)) Tries p.options),
+    )
+
+pub run_numbers : (words : List Text) → is_in run words ≡ true
+    → IfSome (value (given_in run (drop 1 words)) Tries) IsSmall × IfSome (value (given_in run (drop 1 words)) Workers) IsSmall
+    × IfSome (value (given_in run (drop 1 words)) Round) IsSmall
+run_numbers words e =
+    let p = parts (File ∷ []) run_flags [] (drop 1 words) e in
+    (
+      numbers_small 1 1000 _ (lit< tt) (option_value_fits run_flags (drop 1 (drop 1 words)) Tries p.options),
+      numbers_small 1 320 _ (lit< tt) (option_value_fits run_flags (drop 1 (drop 1 words)) Workers p.options),
+      numbers_small 1 4096 _ (lit< tt) (option_value_fits run_flags (drop 1 (drop 1 words)) Round p.options),
+    )
+
+pub make_numbers : (words : List Text) → is_in make words ≡ true → IsSmall (word (given_in make (drop 1 words)) 0)
+make_numbers words e =
+    let p = parts (stations_asked ∷ []) [] [] (drop 1 words) e in
+    number_small 1 32 _ (lit< tt) (first_fits stations_asked (take 1 (drop 1 words)) p.positionals)

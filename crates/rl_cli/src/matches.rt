@@ -102,3 +102,13 @@ pub fn number_at(matches: &ArgMatches<'_>, id: &str) -> Option<u32>
 {
     matches.get_str(id).map(|word| number(word))
 }
+
+/// The number that was read as this argument, which was given.
+pub fn needed_number_at(matches: &ArgMatches<'_>, id: &str) -> Result<u32, CliFault>
+    ensures { IfSome (first_value (found_of matches.now) id.now) (λ word. number word < 2 ^ 32) → Answers (option_map number (first_value (found_of matches.now) id.now)) result }
+{
+    match number_at(matches, id) {
+        Some(n) => Ok(n),
+        None => Err(CliFault::Usage),
+    }
+}

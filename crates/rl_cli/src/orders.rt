@@ -6,7 +6,7 @@ use crate::fault::CliFault;
 use crate::flag::Flag;
 use crate::item::Item;
 use crate::limits::{MOST_MADE, MOST_ROUNDS, USUAL_ROUND, USUAL_TRIES};
-use crate::matches::{matches_of, number_at, text_at, texts_of};
+use crate::matches::{matches_of, needed_number_at, number_at, text_at, texts_of};
 use crate::order::Order;
 use crate::written::is_written;
 use rl_base::Text;
@@ -59,7 +59,7 @@ fn read_rounds(alloc: Global, words: &[Text]) -> Result<Order, CliFault>
     let options = [Flag::Schedule, Flag::Tries];
     let matches = matches_of(alloc, ["NET", "N"].as_slice(), options.as_slice(), texts.as_slice())?;
     let net = text_at(alloc, &matches, "NET")?;
-    let rounds = number_at(&matches, "N").ok_or(CliFault::Usage)?;
+    let rounds = needed_number_at(&matches, "N")?;
     let tries = number_at(&matches, "--tries").unwrap_or(USUAL_TRIES);
     Ok(Order::Rounds { net, rounds, tries })
 }
@@ -122,11 +122,14 @@ fn read_run(alloc: Global, words: &[Text]) -> Result<Order, CliFault>
     let options = [Flag::Tries, Flag::Workers, Flag::Round];
     let matches = matches_of(alloc, ["NET"].as_slice(), options.as_slice(), texts.as_slice())?;
     let net = text_at(alloc, &matches, "NET")?;
+    let tries = number_at(&matches, "--tries").unwrap_or(USUAL_TRIES);
+    let workers = number_at(&matches, "--workers");
+    let round = number_at(&matches, "--round").unwrap_or(USUAL_ROUND);
     Ok(Order::Run {
         net,
-        tries: number_at(&matches, "--tries").unwrap_or(USUAL_TRIES),
-        workers: number_at(&matches, "--workers"),
-        round: number_at(&matches, "--round").unwrap_or(USUAL_ROUND),
+        tries,
+        workers,
+        round,
     })
 }
 
@@ -172,7 +175,7 @@ fn read_make(alloc: Global, words: &[Text]) -> Result<Order, CliFault>
 {
     let texts = texts_of(alloc, words)?;
     let matches = matches_of(alloc, ["N"].as_slice(), [].as_slice(), texts.as_slice())?;
-    let n = number_at(&matches, "N").ok_or(CliFault::Usage)?;
+    let n = needed_number_at(&matches, "N")?;
     Ok(Order::Make { n })
 }
 
