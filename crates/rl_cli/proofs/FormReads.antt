@@ -11,7 +11,7 @@ use Rattle.clap.proofs.WalkLemmas.{both, first_value-rows}
 use Rattle.rl_cli.specs.Words.{fits, number}
 use Rattle.rl_cli.specs.Table.{Form, item_of, name_of, audit, check, drive, make, rounds, run, rounds_asked, schedule_of, stations_asked, value, word}
 use Rattle.rl_cli.specs.Written.{fit, has_option, is_option_of}
-use Rattle.rl_cli.specs.Tests.{Answers, are_options, given_in, is_after_name, is_in, pairs}
+use Rattle.rl_cli.specs.Orders.{Answers, are_options, given_in, is_after_name, is_in, pairs}
 use Rattle.rl_cli.specs.Apps.{app_with}
 use Rattle.rl_cli.specs.declared.item.Item.{Item}
 use Rattle.rl_cli.specs.declared.item.Item.TheVariants.{File, Number}

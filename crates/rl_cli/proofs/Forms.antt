@@ -12,7 +12,7 @@ use Rattle.rl_text.specs.Number.{number_of}
 use Rattle.rl_cli.specs.Words.{fits, is_plain, number_in, within}
 use Rattle.rl_cli.specs.Table.{name_of, item_of}
 use Rattle.rl_cli.specs.Written.{has_option, is_each_once, is_option_of, two_words}
-use Rattle.rl_cli.specs.Tests.{are_options, pairs}
+use Rattle.rl_cli.specs.Orders.{are_options, pairs}
 use Rattle.rl_cli.specs.declared.item.Item.{Item}
 use Rattle.rl_cli.specs.declared.item.Item.TheVariants.{File, Number}
 use Rattle.rl_cli.specs.declared.flag.Flag.{Flag}

@@ -5,3 +5,4 @@ pub mod Commands
 pub mod Forms
 pub mod FormReads
 pub mod Numbers
+pub mod Laws

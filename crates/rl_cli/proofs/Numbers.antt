@@ -8,7 +8,7 @@ use Rattle.rl_text.specs.Number.{number_of}
 use Rattle.rl_cli.specs.Words.{Text, fits, number, within}
 use Rattle.rl_cli.specs.Table.{item_of, name_of}
 use Rattle.rl_cli.specs.Written.{fit, has_option, is_option_of}
-use Rattle.rl_cli.specs.Tests.{are_options, pairs}
+use Rattle.rl_cli.specs.Orders.{are_options, pairs}
 use Rattle.rl_cli.specs.declared.item.Item.{Item}
 use Rattle.rl_cli.specs.declared.item.Item.TheVariants.{File, Number}
 use Rattle.rl_cli.specs.declared.flag.Flag.{Flag}

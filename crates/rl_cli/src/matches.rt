@@ -1,7 +1,7 @@
 ghost use Rattle.std.specs.Prelude.{◌≡◌, ◌<◌, ◌^◌, Some, None, true, false, map, option_map, IfSome, IfOk, IfErr};
 ghost use Rattle.clap.specs.Words.{app_of, rule_of, takes, first_value, found_of, HasMatchesOf};
 ghost use Rattle.rl_cli.specs.Words.{number};
-ghost use Rattle.rl_cli.specs.Tests.{Answers};
+ghost use Rattle.rl_cli.specs.Orders.{Answers};
 ghost use Rattle.rl_cli.specs.Apps.{rule_for, app_with};
 
 use crate::fault::CliFault;

@@ -1,6 +1,6 @@
 ghost use Rattle.std.specs.Prelude.{◌≡◌, ◌<◌, length, drop, true, Some, IsTrue};
 ghost use Rattle.rl_cli.specs.Table.{check, tables, rounds, drive, run, audit, make, word};
-ghost use Rattle.rl_cli.specs.Tests.{Answers, order_after, given_in, or_else, is_in, net_after};
+ghost use Rattle.rl_cli.specs.Orders.{Answers, order_after, given_in, or_else, is_in, net_after};
 
 use crate::fault::CliFault;
 use crate::flag::Flag;

@@ -1,5 +1,7 @@
-ghost use Rattle.std.specs.Prelude.{◌<◌, length, drop};
-ghost use Rattle.rl_cli.specs.Tests.{Answers, order_named, order_of};
+ghost use Rattle.std.specs.Prelude.{◌≡◌, ◌<◌, length, drop, IfOk, IsErrOf, Some};
+ghost use Rattle.rl_cli.specs.Orders.{Answers, order_named, order_of};
+ghost use Rattle.rl_cli.specs.Written.{IsWritten};
+ghost use Rattle.rl_cli.specs.declared.order.Order.{Order};
 
 use crate::fault::CliFault;
 use crate::order::Order;
@@ -25,7 +27,17 @@ fn order_for(alloc: Global, name: &str, words: &[Text]) -> Result<Order, CliFaul
 
 /// The order that the words of a command line give. The words don't include the program's own name.
 pub fn parse(alloc: Global, words: &Args) -> Result<Order, CliFault>
-    ensures { Answers (order_of words.now) result }
+    // The order that the words have, and Usage where they have none, unless memory runs out.
+    ensures answer { Answers (order_of words.now) result }
+
+    // An order is one for which the words are written in a form of the table.
+    ensures written { IfOk result (IsWritten words.now) }
+
+    // Each order for which they are written there is the one that they have.
+    ensures exact { (order : Order) → IsWritten words.now order → order_of words.now ≡ Some order }
+
+    // Usage is answered only for words that are written in no form.
+    ensures usage { IsErrOf result CliFault.Usage → (order : Order) → ¬ IsWritten words.now order }
 {
     match words.as_slice() {
         [] => Err(CliFault::Usage),

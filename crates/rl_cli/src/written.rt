@@ -3,7 +3,7 @@ ghost use Rattle.std.specs.List.{list_all};
 ghost use Rattle.rl_cli.specs.Words.{is_plain, number_in, fits};
 ghost use Rattle.rl_cli.specs.Table.{name_of};
 ghost use Rattle.rl_cli.specs.Written.{fit, is_option_of, has_option};
-ghost use Rattle.rl_cli.specs.Tests.{pairs, are_options, is_after_name};
+ghost use Rattle.rl_cli.specs.Orders.{pairs, are_options, is_after_name};
 
 use crate::flag::Flag;
 use crate::item::Item;
@@ -91,7 +91,7 @@ fn are_there(flags: &[Flag], words: &[Text]) -> bool
 
 /// Whether the words after a command's name are the positionals and then options, of which those that are
 /// needed are there.
-#[tactic(auto, unfolding(crate::specs::Tests::is_after_name))]
+#[tactic(auto, unfolding(crate::specs::Orders::is_after_name))]
 pub fn is_written(positionals: &[Item], options: &[Flag], needs: &[Flag], words: &[Text]) -> bool
     ensures { result ≡ is_after_name positionals.now options.now needs.now words.now }
 {

@@ -1,7 +1,5 @@
 use Rattle.std.proofs.Common.{◌∙◌, ap, sym, Bor, List, map, ℕ}
 use Rattle.clap.specs.Words.{App, takes}
-use Rattle.rl_cli.proofs.Numbers as freads
-use Rattle.rl_cli.proofs.Commands as commands
 use Rattle.rl_cli.proofs.matches.matches_of.Goals as goal
 
 pub returns : goal.returns
