@@ -1,5 +1,5 @@
 -- The order that the words have, as a function, is the order for which they are written in a form of the table.
-use Rattle.std.proofs.Common.{◌≡◌, ◌∙◌, ◌&&◌, ◌≤◌, ◌+◌, ℕ, Bool, true, false, cond, not, List, [], ◌∷◌, ◌++◌, Option, Some, None, inl, inr, refl, sym, ap, ap₂, subst, true≢false, arith, take, drop, length, nat_le, codes, zero, suc}
+use Rattle.std.proofs.Common.{◌≡◌, ◌∙◌, ◌&&◌, ◌<◌, ◌≤◌, ◌+◌, ℕ, Bool, true, false, cond, not, List, [], ◌∷◌, ◌++◌, Option, Some, None, inl, inr, refl, sym, ap, ap₂, subst, true≢false, arith, take, drop, length, nat_le, get_or, Result, Ok, Err, IfOk, codes}
 use Rattle.std.specs.Prelude.{bytes_eq}
 use Rattle.std.specs.List.{flat_map, list_all}
 use Rattle.std.proofs.lemmas.Bool.Decides.{nat_tests}
@@ -10,12 +10,14 @@ use Rattle.clap.proofs.WalkLemmas.{both}
 use Rattle.rl_cli.specs.Words.{Text, fits, is_plain}
 use Rattle.rl_cli.specs.Table.{Form, Given, item_of, name_of, forms, check, tables, rounds, drive, run, audit, make, rounds_asked}
 use Rattle.rl_cli.specs.Written.{IsAskedFor, IsWritten, IsWrittenAs, IsWrittenIn, fit, has_option, is_each_once, is_option_of, two_words, words_in}
-use Rattle.rl_cli.specs.Orders.{are_options, given_in, is_after_name, or_else, order_after, order_among, order_in, order_named, order_of, pairs}
+use Rattle.rl_cli.specs.Orders.{Answers, are_options, given_in, is_after_name, or_else, order_after, order_among, order_in, order_named, order_of, pairs}
 use Rattle.rl_cli.specs.declared.item.Item.{Item}
 use Rattle.rl_cli.specs.declared.item.Item.TheVariants.{File}
 use Rattle.rl_cli.specs.declared.flag.Flag.{Flag}
 use Rattle.rl_cli.specs.declared.flag.Flag.TheVariants.{Schedule, Tries, Workers, Round}
 use Rattle.rl_cli.specs.declared.order.Order.{Order}
+use Rattle.rl_cli.specs.declared.fault.CliFault.{CliFault}
+use Rattle.rl_cli.specs.declared.fault.CliFault.TheVariants.{Usage}
 use Rattle.rl_cli.proofs.Rows.{bytes_eq-true}
 use Rattle.rl_cli.proofs.Walking.{conj}
 use Rattle.rl_cli.proofs.Forms.{cut, either, fits_plain}
@@ -150,6 +152,7 @@ second_is : (x y next : Option Order) (order : Order) → x ≡ None → y ≡ S
 second_is x y next order e f = ap₂ (λ o p. or_else o (or_else p next)) e f
 
 pub written_complete : (words : List Text) (order : Order) → IsWritten words order → order_of words ≡ Some order
+unfolding order_of IsWritten
 written_complete words order written = elim written [
   | inl w ↦ ap order_of w.spelled ∙ first_is (order_in check (words_in check w.given)) (order_among (tables ∷ rounds ∷ drive ∷ run ∷ audit ∷ make ∷ []) (words_in check w.given)) order
       (after_complete check w.given w.asked ∙ ap Some (sym w.gives))
@@ -195,6 +198,7 @@ at_name name this P here other = go (bytes_eq name this) refl
     go false is = other is
 
 pub order_by_name : (name : Text) (words : List Text) → order_of (name ∷ words) ≡ order_named name words
+unfolding order_of
 order_by_name name words =
     let P : Text → Type 0 = λ n. order_of (n ∷ words) ≡ order_named n words in
     at_name name (codes "check") P (or_none (order_after check words)) (λ e1.
@@ -203,3 +207,25 @@ order_by_name name words =
     at_name name (codes "run") P (or_none (order_after run words)) (λ e4.
     at_name name (codes "audit") P (or_none (order_after audit words)) (λ e5.
     at_name name (codes "make") P (or_none (order_after make words)) (λ e6. rw (e1, e2, e3, e4, e5, e6) refl))))))
+
+-- ---- what the answers of a parse say
+
+pub none_of_no_words : (words : List Text) → length words < 1 → order_of words ≡ None
+unfolding order_of
+none_of_no_words [] none = refl
+none_of_no_words (w ∷ ws) none = absurd (omega arith)
+
+pub order_by_first : (words : List Text) (name : Text) → 1 ≤ length words → name ≡ get_or words 0 name → order_of words ≡ order_named name (drop 1 words)
+order_by_first [] name some first = absurd (omega arith)
+order_by_first (w ∷ ws) name some first = ap (λ (n : Text). order_of (n ∷ ws)) (sym first) ∙ order_by_name name ws
+
+pub answers_written : (words : List Text) (r : Result Order CliFault) → Answers (order_of words) r → IfOk r (IsWritten words)
+unfolding order_of IsWritten
+answers_written words (Ok order) answers = among_written forms words order answers
+answers_written words (Err fault) answers = tt
+
+pub answers_usage : (words : List Text) (r : Result Order CliFault) → Answers (order_of words) r → r ≡ Err Usage → (order : Order) → IsWritten words order → ⊥
+answers_usage words r answers is order written =
+    let none : order_of words ≡ None = subst (λ (x : Result Order CliFault). Answers (order_of words) x) is answers in
+    let some = written_complete words order written in
+    cc

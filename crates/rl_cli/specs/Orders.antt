@@ -73,7 +73,7 @@ order_among [] words = None
 order_among (f ∷ rest) words = or_else (order_in f words) (order_among rest words)
 
 -- the order that the words give, if they give one
-abbrev pub order_of : List Text → Option Order
+unfoldable pub order_of : List Text → Option Order
 order_of words = order_among forms words
 
 -- the result is what is wanted, Usage where nothing is, or want of memory

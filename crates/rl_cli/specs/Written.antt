@@ -53,5 +53,5 @@ IsWrittenIn [] words order = ⊥
 IsWrittenIn (f ∷ rest) words order = IsWrittenAs f words order ⊎ IsWrittenIn rest words order
 
 -- the words are written in a form of the table, and give the order
-abbrev pub IsWritten : List Text → Order → Type 0
+unfoldable pub IsWritten : List Text → Order → Type 0
 IsWritten words order = IsWrittenIn forms words order

@@ -13,7 +13,8 @@ mod matches;
 pub mod order;
 mod orders;
 pub mod parser;
-
+#[cfg(test)]
+mod tests;
 mod written;
 
 pub use fault::CliFault;

@@ -25,6 +25,16 @@ fn order_for(alloc: Global, name: &str, words: &[Text]) -> Result<Order, CliFaul
     }
 }
 
+/// The first word decides which forms there may be.
+fn order_in_words(alloc: Global, words: &[Text]) -> Result<Order, CliFault>
+    ensures { Answers (order_of words.now) result }
+{
+    match words {
+        [] => Err(CliFault::Usage),
+        [name, ..] => order_for(alloc, name.as_str(), words),
+    }
+}
+
 /// The order that the words of a command line give. The words don't include the program's own name.
 pub fn parse(alloc: Global, words: &Args) -> Result<Order, CliFault>
     // The order that the words have, and Usage where they have none, unless memory runs out.
@@ -39,8 +49,5 @@ pub fn parse(alloc: Global, words: &Args) -> Result<Order, CliFault>
     // Usage is answered only for words that are written in no form.
     ensures usage { IsErrOf result CliFault.Usage → (order : Order) → ¬ IsWritten words.now order }
 {
-    match words.as_slice() {
-        [] => Err(CliFault::Usage),
-        [name, ..] => order_for(alloc, name.as_str(), words.as_slice()),
-    }
+    order_in_words(alloc, words.as_slice())
 }
