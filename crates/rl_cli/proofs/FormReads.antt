@@ -38,7 +38,7 @@ or_right false b e = e
 -- a fault at something that is there is one of memory
 pub fault_at : {T U : Type 0} (u : U) (found : Option T) (t : T) (e : CliFault) → found ≡ Some t → Answers found (Err e) → Answers (Some u) (Err e)
 fault_at u found t Usage is answers = cc
-fault_at u found t NoMemory is answers = tt
+fault_at u found t NoMemory is answers = refl
 
 -- the same through `?`
 pub passed_on : {T : Type 0} (r : Result T CliFault) (u : T) (e : CliFault) → IsErrAnd r (λ y. y ≡ e) → Answers {T = T} (Some u) (Err e) → Answers (Some u) r
@@ -49,7 +49,7 @@ passed_on (Err y) u e is answers = subst (λ (z : CliFault). Answers (Some u) (E
 pub fails_for_memory : {U : Type 0} (u : U) (ids ids' : List Text) (flags flags' : List Flag) (words words' : List Text) (given : List (Text × Text)) (e : CliFault)
     → ids' ≡ ids → flags' ≡ flags → words' ≡ words → Reads ids flags words given → (takes (app_with ids' flags') words' ≡ true → e ≡ NoMemory) → Answers (Some u) (Err e)
 fails_for_memory {U} u ids ids' flags flags' words words' given e a b w reads fails =
-    subst (λ (z : CliFault). Answers {T = U} (Some u) (Err z)) (sym (fails ((λ i. takes (app_with (a i) (b i)) (w i)) ∙ reads.takes))) tt
+    subst (λ (z : CliFault). Answers {T = U} (Some u) (Err z)) (sym (fails ((λ i. takes (app_with (a i) (b i)) (w i)) ∙ reads.takes))) refl
 
 -- what a getter gives, where the command is as it is
 pub value_read : (ids ids' : List Text) (flags flags' : List Flag) (words words' : List Text) (given : List (Text × Text)) (m : ArgMatches)

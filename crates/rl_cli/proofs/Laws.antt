@@ -1,5 +1,5 @@
 -- The order that the words have, as a function, is the order for which they are written in a form of the table.
-use Rattle.std.proofs.Common.{◌≡◌, ◌∙◌, ◌&&◌, ◌<◌, ◌≤◌, ◌+◌, ℕ, Bool, true, false, cond, not, List, [], ◌∷◌, ◌++◌, Option, Some, None, inl, inr, refl, sym, ap, ap₂, subst, true≢false, arith, take, drop, length, nat_le, get_or, Result, Ok, Err, IfOk, codes}
+use Rattle.std.proofs.Common.{◌≡◌, ◌∙◌, ◌&&◌, ◌<◌, ◌≤◌, ◌+◌, ℕ, Bool, true, false, cond, not, List, [], ◌∷◌, ◌++◌, Option, Some, None, inl, inr, refl, sym, ap, ap₂, subst, true≢false, arith, take, drop, length, nat_le, get_or, Result, Ok, Err, IfOk, IsSome, codes}
 use Rattle.std.specs.Prelude.{bytes_eq}
 use Rattle.std.specs.List.{flat_map, list_all}
 use Rattle.std.proofs.lemmas.Bool.Decides.{nat_tests}
@@ -17,7 +17,7 @@ use Rattle.rl_cli.specs.declared.flag.Flag.{Flag}
 use Rattle.rl_cli.specs.declared.flag.Flag.TheVariants.{Schedule, Tries, Workers, Round}
 use Rattle.rl_cli.specs.declared.order.Order.{Order}
 use Rattle.rl_cli.specs.declared.fault.CliFault.{CliFault}
-use Rattle.rl_cli.specs.declared.fault.CliFault.TheVariants.{Usage}
+use Rattle.rl_cli.specs.declared.fault.CliFault.TheVariants.{Usage, NoMemory}
 use Rattle.rl_cli.proofs.Rows.{bytes_eq-true}
 use Rattle.rl_cli.proofs.Walking.{conj}
 use Rattle.rl_cli.proofs.Forms.{cut, either, fits_plain}
@@ -229,3 +229,12 @@ answers_usage words r answers is order written =
     let none : order_of words ≡ None = subst (λ (x : Result Order CliFault). Answers (order_of words) x) is answers in
     let some = written_complete words order written in
     cc
+
+pub usage_answers : (words : List Text) (r : Result Order CliFault) → Answers (order_of words) r → ((order : Order) → IsWritten words order → ⊥) → r ≡ Err Usage
+usage_answers words (Ok order) answers none = absurd (none order (answers_written words (Ok order) answers))
+usage_answers words (Err Usage) answers none = refl
+usage_answers words (Err NoMemory) answers none = go (order_of words) refl answers
+  where
+    go : (o : Option Order) → order_of words ≡ o → IsSome o → ◌≡◌ {A = Result Order CliFault} (Err NoMemory) (Err Usage)
+    go None is there = absurd (true≢false (sym there))
+    go (Some order) is there = absurd (none order (answers_written words (Ok order) is))

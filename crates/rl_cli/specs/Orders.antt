@@ -1,5 +1,5 @@
 -- The same as tests of the words, and the order as a function of them.
-use Rattle.std.specs.Prelude.{◌≡◌, ◌⊎◌, Bool, true, false, not, ◌&&◌, ◌||◌, List, [], ◌∷◌, ◌++◌, length, take, drop, nat_le, Option, Some, None, Result, Ok, Err, bytes_eq, codes, if◌then◌else◌}
+use Rattle.std.specs.Prelude.{◌≡◌, ◌⊎◌, Bool, true, false, not, ◌&&◌, ◌||◌, List, [], ◌∷◌, ◌++◌, length, take, drop, nat_le, Option, Some, None, IsSome, Result, Ok, Err, bytes_eq, codes, if◌then◌else◌}
 use Rattle.std.specs.List.{list_all}
 use Rattle.rl_cli.specs.Words.{Text}
 use Rattle.rl_cli.specs.Table.{Form, Given, name_of, forms, word, check, tables, rounds, drive, run, audit, make}
@@ -76,8 +76,8 @@ order_among (f ∷ rest) words = or_else (order_in f words) (order_among rest wo
 unfoldable pub order_of : List Text → Option Order
 order_of words = order_among forms words
 
--- the result is what is wanted, Usage where nothing is, or want of memory
+-- the result is what is wanted, and Usage where nothing is; memory may run out where something is
 abbrev pub Answers : {T : Type 0} → Option T → Result T CliFault → Type 0
 Answers wanted (Ok found) = wanted ≡ Some found
 Answers wanted (Err Usage) = wanted ≡ None
-Answers wanted (Err NoMemory) = Unit {0}
+Answers wanted (Err NoMemory) = IsSome wanted

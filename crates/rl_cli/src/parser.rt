@@ -1,4 +1,4 @@
-ghost use Rattle.std.specs.Prelude.{◌≡◌, ◌<◌, length, drop, IfOk, IsErrOf, Some};
+ghost use Rattle.std.specs.Prelude.{◌≡◌, ◌<◌, ◌↔◌, length, drop, IfOk, IsErrOf, Some};
 ghost use Rattle.rl_cli.specs.Orders.{Answers, order_named, order_of};
 ghost use Rattle.rl_cli.specs.Written.{IsWritten};
 ghost use Rattle.rl_cli.specs.declared.order.Order.{Order};
@@ -37,7 +37,7 @@ fn order_in_words(alloc: Global, words: &[Text]) -> Result<Order, CliFault>
 
 /// The order that the words of a command line give. The words don't include the program's own name.
 pub fn parse(alloc: Global, words: &Args) -> Result<Order, CliFault>
-    // The order that the words have, and Usage where they have none, unless memory runs out.
+    // The order that the words have, or want of memory, and Usage where they have none.
     ensures answer { Answers (order_of words.now) result }
 
     // An order is one for which the words are written in a form of the table.
@@ -46,8 +46,8 @@ pub fn parse(alloc: Global, words: &Args) -> Result<Order, CliFault>
     // Each order for which they are written there is the one that they have.
     ensures exact { (order : Order) → IsWritten words.now order → order_of words.now ≡ Some order }
 
-    // Usage is answered only for words that are written in no form.
-    ensures usage { IsErrOf result CliFault.Usage → (order : Order) → ¬ IsWritten words.now order }
+    // Usage is the answer to all words that are written in no form, whatever memory is left, and to no others.
+    ensures usage { IsErrOf result CliFault.Usage ↔ ((order : Order) → ¬ IsWritten words.now order) }
 {
     order_in_words(alloc, words.as_slice())
 }

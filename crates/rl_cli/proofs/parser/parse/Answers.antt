@@ -1,6 +1,6 @@
 use Rattle.std.proofs.Common.{rules}
 use Rattle.rl_cli.specs.Orders.{Answers, order_of}
-use Rattle.rl_cli.proofs.Laws.{answers_usage, answers_written, written_complete}
+use Rattle.rl_cli.proofs.Laws.{answers_usage, answers_written, usage_answers, written_complete}
 use Rattle.rl_cli.proofs.parser.parse.Goals as goal
 
 pub returns : goal.returns
@@ -10,5 +10,5 @@ returns c =
       answer = answers;
       written = answers_written c.args.words.now c.order_in_words.result answers;
       exact = written_complete c.args.words.now;
-      usage = answers_usage c.args.words.now c.order_in_words.result answers;
+      usage = (answers_usage c.args.words.now c.order_in_words.result answers, usage_answers c.args.words.now c.order_in_words.result answers);
     }
