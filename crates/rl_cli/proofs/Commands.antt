@@ -1,5 +1,5 @@
 -- The simple commands that read the forms, as they are built, and what a parse by one of them finds.
-use Rattle.std.proofs.Common.{◌≡◌, ◌∙◌, ◌&&◌, ℕ, Bool, true, false, List, [], ◌∷◌, ◌++◌, map, Some, refl, ap, ap₂, true≢false, sym, ◌==◌, codes}
+use Rattle.std.proofs.Common.{◌≡◌, ℕ, true, false, List, [], ◌∷◌, map, Some, refl, true≢false, sym, ◌==◌, codes}
 use Rattle.std.specs.Prelude.{bytes_eq}
 use Rattle.clap.specs.Walk.{Row, Rule, Text, arg_by_id, most_values, nothing_held, settled_rows, walk_from, walked}
 use Rattle.clap.specs.Simple.{Shape, built, filled, is_simple, matches_of}

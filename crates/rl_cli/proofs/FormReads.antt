@@ -1,20 +1,20 @@
 -- What is found at the words of each form.
-use Rattle.std.proofs.Common.{◌≡◌, ◌∙◌, ◌&&◌, ◌||◌, ℕ, Bool, true, false, List, [], ◌∷◌, drop, take, length, map, Option, Some, None, Result, Ok, Err, IsErrAnd, subst, IfSome, lit<, ◌<◌, ◌^◌, refl, sym, ap, true≢false, codes, nat_le}
+use Rattle.std.proofs.Common.{◌≡◌, ◌∙◌, ◌&&◌, ◌||◌, Bool, true, false, List, [], ◌∷◌, drop, take, length, Option, Some, Result, Ok, Err, IsErrAnd, subst, IfSome, lit<, ◌<◌, ◌^◌, refl, sym, ap, true≢false, codes, nat_le}
 use Rattle.std.specs.List.{list_all}
 use Rattle.std.specs.Prelude.{bytes_eq, slice_get, unwrap_or, not}
-use Rattle.clap.specs.Walk.{Text, arg_by_index, first_of, rows_of}
+use Rattle.clap.specs.Walk.{Text, arg_by_index, first_of}
 use Rattle.clap.specs.Simple.{HasMatchesOf, is_simple}
 use Rattle.clap.specs.Takes.{takes}
 use Rattle.clap.specs.Matches.{first_value, found_of}
 use Rattle.clap.specs.declared.parser.matches.ArgMatches.{ArgMatches}
 use Rattle.clap.proofs.WalkLemmas.{both, first_value-rows}
 use Rattle.rl_cli.specs.Words.{fits, number}
-use Rattle.rl_cli.specs.Table.{Form, item_of, name_of, audit, check, drive, make, rounds, run, rounds_asked, schedule_of, stations_asked, value, word}
+use Rattle.rl_cli.specs.Table.{item_of, name_of, audit, check, drive, make, rounds, run, rounds_asked, schedule_of, stations_asked, value, word}
 use Rattle.rl_cli.specs.Written.{fit, has_option, is_option_of}
 use Rattle.rl_cli.specs.Orders.{Answers, are_options, given_in, is_after_name, is_in, pairs}
 use Rattle.rl_cli.specs.Apps.{app_with}
 use Rattle.rl_cli.specs.declared.item.Item.{Item}
-use Rattle.rl_cli.specs.declared.item.Item.TheVariants.{File, Number}
+use Rattle.rl_cli.specs.declared.item.Item.TheVariants.{File}
 use Rattle.rl_cli.specs.declared.flag.Flag.{Flag}
 use Rattle.rl_cli.specs.declared.flag.Flag.TheVariants.{Schedule, Tries, Workers, Round}
 use Rattle.rl_cli.specs.declared.fault.CliFault.{CliFault}
@@ -217,8 +217,7 @@ small_as found o is small = subst (λ (x : Option Text). IfSome x IsSmall) (sym 
 pub rounds_numbers : (words : List Text) → is_in rounds words ≡ true
     → IsSmall (word (given_in rounds (drop 1 words)) 1) × IfSome (value (given_in rounds (drop 1 words)) Tries) IsSmall
 rounds_numbers words e =
-    let p = parts (File ∷ rounds_asked ∷ []) (Tries ∷ []) [] (drop 1 words) e in
-    (
+    let p = parts (File ∷ rounds_asked ∷ []) (Tries ∷ []) [] (drop 1 words) e in (
       number_small 0 1000000 _ (lit< tt) (second_fits File rounds_asked (take 2 (drop 1 words)) p.positionals),
       numbers_small 1 1000 _ (lit< tt) (option_value_fits (Tries ∷ []) (drop 2 (drop 1 words)) Tries p.options),
     )
@@ -227,8 +226,7 @@ pub drive_numbers : (words : List Text) → is_in drive words ≡ true
     → (value (given_in drive (drop 1 words)) Schedule ≡ Some (schedule_of (given_in drive (drop 1 words))))
     × IfSome (value (given_in drive (drop 1 words)) Tries) IsSmall
 drive_numbers words e =
-    let p = parts (File ∷ []) drive_flags (Schedule ∷ []) (drop 1 words) e in
-    (
+    let p = parts (File ∷ []) drive_flags (Schedule ∷ []) (drop 1 words) e in (
       there (name_of Schedule) (pairs (drop 1 (drop 1 words))) (both _ _ p.needed).0,
       numbers_small 1 1000 _ (lit< tt) (option_value_fits drive_flags (drop 1 (drop 1 words)) Tries p.options),
     )
@@ -237,8 +235,7 @@ pub run_numbers : (words : List Text) → is_in run words ≡ true
     → IfSome (value (given_in run (drop 1 words)) Tries) IsSmall × IfSome (value (given_in run (drop 1 words)) Workers) IsSmall
     × IfSome (value (given_in run (drop 1 words)) Round) IsSmall
 run_numbers words e =
-    let p = parts (File ∷ []) run_flags [] (drop 1 words) e in
-    (
+    let p = parts (File ∷ []) run_flags [] (drop 1 words) e in (
       numbers_small 1 1000 _ (lit< tt) (option_value_fits run_flags (drop 1 (drop 1 words)) Tries p.options),
       numbers_small 1 320 _ (lit< tt) (option_value_fits run_flags (drop 1 (drop 1 words)) Workers p.options),
       numbers_small 1 4096 _ (lit< tt) (option_value_fits run_flags (drop 1 (drop 1 words)) Round p.options),

@@ -1,8 +1,8 @@
 -- What a parse finds at the words of a form.
-use Rattle.std.proofs.Common.{◌≡◌, ◌∙◌, ◌&&◌, ◌||◌, ◌⊎◌, inl, inr, ℕ, Bool, true, false, cond, not, List, [], ◌∷◌, ◌++◌, map, Option, Some, None, refl, sym, ap, ap₂, subst, true≢false, codes, ◌==◌, nat_lt, length, arith, min, ◌+◌}
+use Rattle.std.proofs.Common.{◌≡◌, ◌∙◌, ◌&&◌, ◌||◌, ◌⊎◌, inl, inr, ℕ, Bool, true, false, cond, not, List, [], ◌∷◌, Option, Some, None, refl, sym, ap, subst, true≢false, ◌==◌, nat_lt, length, arith, min, ◌+◌}
 use Rattle.std.specs.Prelude.{bytes_eq, is_some, option_and_then}
 use Rattle.std.proofs.lemmas.Bool.Decides.{nat_tests}
-use Rattle.std.specs.List.{flat_map, list_all, list_any}
+use Rattle.std.specs.List.{flat_map, list_all}
 use Rattle.clap.specs.Walk.{Text, arg_by_index, nothing_held, settled_rows, walk_from}
 use Rattle.clap.specs.Takes.{settle_passes}
 use Rattle.clap.specs.Simple.{Shape}
@@ -16,8 +16,7 @@ use Rattle.rl_cli.specs.Orders.{are_options, pairs}
 use Rattle.rl_cli.specs.declared.item.Item.{Item}
 use Rattle.rl_cli.specs.declared.item.Item.TheVariants.{File, Number}
 use Rattle.rl_cli.specs.declared.flag.Flag.{Flag}
-use Rattle.rl_cli.specs.declared.flag.Flag.TheVariants.{Schedule, Tries, Workers, Round}
-use Rattle.rl_cli.proofs.Rows.{as_row, bytes_eq-true, is_not}
+use Rattle.rl_cli.proofs.Rows.{bytes_eq-true, is_not}
 use Rattle.rl_cli.proofs.Walking.{AreNew, AreOptions, Finds, IsArgument, IsOption, conj, first_word, held, options_found, passes_after, positional_passes_at, positional_rule, positional_walked, settled_after, standing}
 
 pub either : (a b : Bool) → (a || b) ≡ true → (a ≡ true) ⊎ (b ≡ true)
@@ -105,7 +104,7 @@ one_found s id flags (b ∷ rest) words at argument single has apart plain optio
     let parts = cut flags words options in
     let are = options_are s flags (p ∷ []) (pairs words) has apart parts.1 in
     let found = options_found s (min (1 + 1) usize_max) [] (Some (id, word ∷ [])) (p ∷ []) (pairs words)
-        (settled_after s.rules [] [] p argument refl refl) (passes_after s.rules [] [] p argument refl refl) are.0 are.1 parts.2 in
+    (settled_after s.rules [] [] p argument refl refl) (passes_after s.rules [] [] p argument refl refl) are.0 are.1 parts.2 in
     first_word s (standing [] None 1) _ word words (p ∷ pairs words) (min (1 + 1) usize_max)
     (positional_walked b rest no s.rules id [] None 1 at) (positional_passes_at b rest no s id [] None 1 at refl)
     (subst (λ (ws : List Text). Finds s (standing [] (Some (id, word ∷ [])) (min (1 + 1) usize_max)) ws (p ∷ pairs words) (min (1 + 1) usize_max)) parts.0 found)
@@ -128,14 +127,14 @@ two_found s id id' flags (b ∷ rest) (b' ∷ rest') words at at' argument argum
     let rows = settled_rows s.rules (Some (id, word ∷ [])) [] in
     let settled = settled_after s.rules [] [] p argument refl refl in
     let passes : settle_passes s.rules s.args_override_self (held [] (Some (id, word ∷ []))) ≡ true =
-        ap (λ b. settle_passes s.rules b (held [] (Some (id, word ∷ [])))) single ∙ passes_after s.rules [] [] p argument refl refl in
+    ap (λ b. settle_passes s.rules b (held [] (Some (id, word ∷ [])))) single ∙ passes_after s.rules [] [] p argument refl refl in
     let new : has_option (p ∷ []) id' ≡ false = ap (λ b. b || false) differ in
     let parts = cut flags words options in
     let are = options_are s flags (p ∷ p' ∷ []) (pairs words) has apart parts.1 in
     let found = options_found s (min (2 + 1) usize_max) rows (Some (id', word' ∷ [])) (p ∷ p' ∷ []) (pairs words)
-        (settled_after s.rules rows (p ∷ []) p' argument' settled new) (passes_after s.rules rows (p ∷ []) p' argument' settled new) are.0 are.1 parts.2 in
+    (settled_after s.rules rows (p ∷ []) p' argument' settled new) (passes_after s.rules rows (p ∷ []) p' argument' settled new) are.0 are.1 parts.2 in
     let second = first_word s (standing [] (Some (id, word ∷ [])) 2) _ word' words (p ∷ p' ∷ pairs words) (min (2 + 1) usize_max)
-        (positional_walked b' rest' no' s.rules id' [] (Some (id, word ∷ [])) 2 at') (positional_passes_at b' rest' no' s id' [] (Some (id, word ∷ [])) 2 at' passes)
-        (subst (λ (ws : List Text). Finds s (standing rows (Some (id', word' ∷ [])) (min (2 + 1) usize_max)) ws (p ∷ p' ∷ pairs words) (min (2 + 1) usize_max)) parts.0 found) in
+    (positional_walked b' rest' no' s.rules id' [] (Some (id, word ∷ [])) 2 at') (positional_passes_at b' rest' no' s id' [] (Some (id, word ∷ [])) 2 at' passes)
+    (subst (λ (ws : List Text). Finds s (standing rows (Some (id', word' ∷ [])) (min (2 + 1) usize_max)) ws (p ∷ p' ∷ pairs words) (min (2 + 1) usize_max)) parts.0 found) in
     first_word s (standing [] None 1) _ word (word' ∷ words) (p ∷ p' ∷ pairs words) (min (2 + 1) usize_max)
     (positional_walked b rest no s.rules id [] None 1 at) (positional_passes_at b rest no s id [] None 1 at refl) second

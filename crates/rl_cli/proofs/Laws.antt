@@ -1,9 +1,8 @@
 -- The order that the words have, as a function, is the order for which they are written in a form of the table.
-use Rattle.std.proofs.Common.{◌≡◌, ◌∙◌, ◌&&◌, ◌<◌, ◌≤◌, ◌+◌, ℕ, Bool, true, false, cond, not, List, [], ◌∷◌, ◌++◌, Option, Some, None, inl, inr, refl, sym, ap, ap₂, subst, true≢false, arith, take, drop, length, nat_le, get_or, Result, Ok, Err, IfOk, IsSome, codes}
+use Rattle.std.proofs.Common.{◌≡◌, ◌∙◌, ◌&&◌, ◌<◌, ◌≤◌, ℕ, Bool, true, false, cond, not, List, [], ◌∷◌, ◌++◌, Option, Some, None, inl, inr, refl, sym, ap, ap₂, subst, true≢false, arith, take, drop, length, nat_le, get_or, Result, Ok, Err, IfOk, IsSome, codes}
 use Rattle.std.specs.Prelude.{bytes_eq}
 use Rattle.std.specs.List.{flat_map, list_all}
 use Rattle.std.proofs.lemmas.Bool.Decides.{nat_tests}
-use Rattle.std.proofs.lemmas.Slice.Eq.{bytes_eq-Decides}
 use Rattle.std.proofs.lemmas.List.{length-append, take-append-drop}
 use Rattle.std.proofs.Math.Seq.{drop-append_seam, take-append_seam}
 use Rattle.clap.proofs.WalkLemmas.{both}
@@ -103,9 +102,9 @@ after_complete f g asked =
     let end : drop n (ps ++ qs) ≡ qs = back ps qs n len in
     let options : pairs (drop n (ps ++ qs)) ≡ g.options = ap pairs end ∙ pairs_of_two_words g.options in
     let test : is_after_name f.positionals f.options f.needs (ps ++ qs) ≡ true =
-        conj _ _ (enough ps qs n len) (conj _ _ (ap (fit f.positionals) start ∙ asked.positionals)
-        (conj _ _ (ap (are_options f.options) end ∙ are_options_given f.options g.options asked.options asked.once)
-        (ap (λ (o : List (Text × Text)). list_all (λ flag. has_option o (name_of flag)) f.needs) options ∙ asked.needed))) in
+    conj _ _ (enough ps qs n len) (conj _ _ (ap (fit f.positionals) start ∙ asked.positionals)
+    (conj _ _ (ap (are_options f.options) end ∙ are_options_given f.options g.options asked.options asked.once)
+    (ap (λ (o : List (Text × Text)). list_all (λ flag. has_option o (name_of flag)) f.needs) options ∙ asked.needed))) in
     let given : given_in f (ps ++ qs) ≡ g = λ i. record { positionals = start i; options = options i } in
     ap₂ (λ (b : Bool) (x : Given). cond b (Some (f.order x)) None) test given
 

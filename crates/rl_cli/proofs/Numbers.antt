@@ -1,7 +1,7 @@
 -- The numbers of a form's words are small, and what must be there is there.
-use Rattle.std.proofs.Common.{◌≡◌, ◌∙◌, ◌&&◌, ◌||◌, ◌<◌, ◌≤◌, ◌^◌, ℕ, Bool, true, false, cond, List, [], ◌∷◌, Option, Some, None, IfSome, refl, sym, ap, subst, true≢false, inl, inr, nat_le, arith, drop, length, unwrap_or, take}
+use Rattle.std.proofs.Common.{◌≡◌, ◌∙◌, ◌&&◌, ◌||◌, ◌<◌, ◌≤◌, ◌^◌, ℕ, Bool, true, false, cond, List, [], ◌∷◌, Option, Some, None, IfSome, refl, sym, ap, subst, true≢false, inl, inr, nat_le, arith, unwrap_or}
 use Rattle.std.specs.Prelude.{bytes_eq, find, is_some, option_and_then, option_map, slice_get}
-use Rattle.std.specs.List.{list_all, list_any}
+use Rattle.std.specs.List.{list_all}
 use Rattle.std.proofs.lemmas.Bool.Decides.{nat_tests}
 use Rattle.clap.proofs.WalkLemmas.{both}
 use Rattle.rl_text.specs.Number.{number_of}
@@ -10,10 +10,10 @@ use Rattle.rl_cli.specs.Table.{item_of, name_of}
 use Rattle.rl_cli.specs.Written.{fit, has_option, is_option_of}
 use Rattle.rl_cli.specs.Orders.{are_options, pairs}
 use Rattle.rl_cli.specs.declared.item.Item.{Item}
-use Rattle.rl_cli.specs.declared.item.Item.TheVariants.{File, Number}
+use Rattle.rl_cli.specs.declared.item.Item.TheVariants.{Number}
 use Rattle.rl_cli.specs.declared.flag.Flag.{Flag}
 use Rattle.rl_cli.specs.declared.flag.Flag.TheVariants.{Schedule, Tries, Workers, Round}
-use Rattle.rl_cli.proofs.Rows.{bytes_eq-sym, bytes_eq-true, lookup}
+use Rattle.rl_cli.proofs.Rows.{bytes_eq-true, lookup}
 use Rattle.rl_cli.proofs.Forms.{cut, either}
 
 pub number_at_most : (least most : ℕ) (word : Text) → fits (Number least most) word ≡ true → number word ≤ most

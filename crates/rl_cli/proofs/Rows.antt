@@ -1,7 +1,6 @@
 -- What a parse has found after some uses of arguments that take one value each: a row for each use, in order.
 use Rattle.std.proofs.Common.{◌≡◌, ◌∙◌, ◌||◌, ℕ, Bool, true, false, not, cond, List, [], ◌∷◌, ◌++◌, map, Option, Some, None, refl, sym, ap, ap₂, nat_eq, ◌&&◌, arith, option_map, append-nil, true≢false}
 use Rattle.std.specs.Prelude.{bytes_eq, option_and_then, slice_get, find}
-use Rattle.std.specs.List.{list_any}
 use Rattle.std.proofs.lemmas.Bool.Decides.{nat_tests}
 use Rattle.std.proofs.lemmas.Slice.Eq.{bytes_eq-Decides}
 use Rattle.clap.specs.Walk.{Row, Text, at_row, has_row, more_values, with_values, without, first_of}

@@ -1,8 +1,8 @@
 -- How clap walks over options with their values.
-use Rattle.std.proofs.Common.{◌≡◌, ◌∙◌, ◌&&◌, ◌||◌, ℕ, Bool, true, false, cond, not, subst, List, [], ◌∷◌, ◌++◌, map, Option, Some, None, refl, sym, ap, ap₂, append-nil, append_assoc, true≢false, min, ◌+◌, ◌==◌}
+use Rattle.std.proofs.Common.{◌≡◌, ◌∙◌, ◌&&◌, ◌||◌, ℕ, Bool, true, false, cond, not, subst, List, [], ◌∷◌, ◌++◌, map, Option, Some, None, refl, sym, ap, ap₂, append-nil, append_assoc, min, ◌+◌, ◌==◌}
 use Rattle.std.specs.Prelude.{bytes_eq}
-use Rattle.std.specs.List.{flat_map, fold, list_all, list_any}
-use Rattle.clap.specs.Walk.{Held, Row, Rule, Walk, Text, arg_by_id, arg_by_index, is_pending, most_values, default_rows, finished, has_row, idle, is_empty, nothing_held, option, reading_by, rows_after, settled_rows, walk, walk_from, walked, with_default, with_values, without}
+use Rattle.std.specs.List.{flat_map, fold, list_all}
+use Rattle.clap.specs.Walk.{Held, Row, Rule, Walk, Text, arg_by_id, arg_by_index, is_pending, most_values, default_rows, finished, has_row, idle, is_empty, nothing_held, option, reading_by, rows_after, settled_rows, walk_from, walked, with_default, with_values, without}
 use Rattle.clap.specs.Simple.{Shape, filled, new_rule, with_index}
 use Rattle.clap.specs.Lexer.{usize_max}
 use Rattle.clap.specs.Takes.{default_passes, is_valid, level_passes, settle_passes, turn_passes, walk_passes}
@@ -121,11 +121,11 @@ options_found s i rows pending before (p ∷ rest) settled settles options new o
     let now = settled_rows s.rules pending rows in
     let apart = both (not (has_option rest p.0)) _ once in
     let found = options_found s i now (Some (p.0, p.1 ∷ [])) (before ++ p ∷ []) rest
-        (settled_after s.rules now before p option.argument settled new.0) (passes_after s.rules now before p option.argument settled new.0)
-        options.1 (still_new before p rest new.1 (is_not _ apart.0)) apart.1 in
+    (settled_after s.rules now before p option.argument settled new.0) (passes_after s.rules now before p option.argument settled new.0)
+    options.1 (still_new before p rest new.1 (is_not _ apart.0)) apart.1 in
     let all : (before ++ p ∷ []) ++ rest ≡ before ++ (p ∷ rest) = append_assoc before (p ∷ []) rest in
     let value = first_word s (awaiting now p.0 i) (standing now (Some (p.0, p.1 ∷ [])) i) p.1 (flat_map two_words rest) ((before ++ p ∷ []) ++ rest) i
-        (option.valued now i p.1 options.0.1) (option.valued_passes now i p.1 options.0.1) found in
+    (option.valued now i p.1 options.0.1) (option.valued_passes now i p.1 options.0.1) found in
     subst (λ given. Finds s (standing rows pending i) (p.0 ∷ p.1 ∷ flat_map two_words rest) given i) all
     (first_word s (standing rows pending i) (awaiting now p.0 i) p.0 (p.1 ∷ flat_map two_words rest) ((before ++ p ∷ []) ++ rest) i
     (option.named rows pending i) (option.named_passes rows pending i settles) value)
@@ -191,9 +191,8 @@ pub level_found : (s : Shape) (words : List Text) (given : List (Text × Text)) 
 level_found s words given i single loose found =
     let last = held found.rows found.pending in
     let checks = λ (w : Walk). walk_passes s [] (walk_from nothing_held) words && (settle_passes s.rules s.args_override_self w.held
-        && (list_all default_passes s.rules && is_valid s (finished s.rules w.held) false)) in
-    let settles : settle_passes s.rules s.args_override_self last ≡ true = ap (λ b. settle_passes s.rules b last) single ∙ found.settles in
-    (
+    && (list_all default_passes s.rules && is_valid s (finished s.rules w.held) false)) in
+    let settles : settle_passes s.rules s.args_override_self last ≡ true = ap (λ b. settle_passes s.rules b last) single ∙ found.settles in (
       ap checks found.end ∙ conj _ _ found.passes (conj _ _ settles (conj _ _ loose.defaults_pass (loose.valid (finished s.rules last)))),
       ap (λ (w : Walk). finished s.rules w.held) found.end ∙ defaults_stay s.rules (settled_rows s.rules found.pending found.rows) loose.defaults ∙ found.settled,
     )

@@ -1,5 +1,5 @@
 -- The same as tests of the words, and the order as a function of them.
-use Rattle.std.specs.Prelude.{◌≡◌, ◌⊎◌, Bool, true, false, not, ◌&&◌, ◌||◌, List, [], ◌∷◌, ◌++◌, length, take, drop, nat_le, Option, Some, None, IsSome, Result, Ok, Err, bytes_eq, codes, if◌then◌else◌}
+use Rattle.std.specs.Prelude.{◌≡◌, Bool, true, false, not, ◌&&◌, List, [], ◌∷◌, length, take, drop, nat_le, Option, Some, None, IsSome, Result, Ok, Err, bytes_eq, codes, if◌then◌else◌}
 use Rattle.std.specs.List.{list_all}
 use Rattle.rl_cli.specs.Words.{Text}
 use Rattle.rl_cli.specs.Table.{Form, Given, name_of, forms, word, check, tables, rounds, drive, run, audit, make}
@@ -35,7 +35,8 @@ is_after_name positionals options needs words =
 abbrev pub given_in : Form → List Text → Given
 given_in f words = record {
   positionals = take (length f.positionals) words;
-  options = pairs (drop (length f.positionals) words) }
+  options = pairs (drop (length f.positionals) words);
+}
 
 -- the order that the words after the form's name give
 abbrev pub order_after : Form → List Text → Option Order

@@ -1,6 +1,6 @@
 -- The table of commands: for each form of a command its name, its positionals, its options, those of them that
 -- must be there, and the order that it gives; and the table of options.
-use Rattle.std.specs.Prelude.{ℕ, List, [], ◌∷◌, slice_get, Option, Some, None, option_map, unwrap_or, find, bytes_eq, codes}
+use Rattle.std.specs.Prelude.{ℕ, List, [], ◌∷◌, slice_get, Option, option_map, unwrap_or, find, bytes_eq, codes}
 use Rattle.rl_cli.specs.Words.{Text, number}
 use Rattle.rl_cli.specs.declared.item.Item.{Item}
 use Rattle.rl_cli.specs.declared.item.Item.TheVariants.{File, Number}
@@ -12,16 +12,16 @@ use Rattle.rl_cli.specs.declared.order.Order.TheVariants as order
 -- how an option is written
 abbrev pub name_of : Flag → Text
 name_of Schedule = codes "-s"
-name_of Tries    = codes "--tries"
-name_of Workers  = codes "--workers"
-name_of Round    = codes "--round"
+name_of Tries = codes "--tries"
+name_of Workers = codes "--workers"
+name_of Round = codes "--round"
 
 -- what its value must be
 abbrev pub item_of : Flag → Item
 item_of Schedule = File
-item_of Tries    = Number 1 1000
-item_of Workers  = Number 1 320
-item_of Round    = Number 1 4096
+item_of Tries = Number 1 1000
+item_of Workers = Number 1 320
+item_of Round = Number 1 4096
 
 -- the words after a command's name: the positionals, and each option's name with its value
 pub record Given : Type 0 where
@@ -56,7 +56,12 @@ pub record Form : Type 0 where
 
 abbrev pub form : Text → List Item → List Flag → List Flag → (Given → Order) → Form
 form name positionals options needs order = record {
-  name = name; positionals = positionals; options = options; needs = needs; order = order }
+  name = name;
+  positionals = positionals;
+  options = options;
+  needs = needs;
+  order = order;
+}
 
 abbrev pub rounds_asked : Item
 rounds_asked = Number 0 1000000

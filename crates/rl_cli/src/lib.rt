@@ -5,14 +5,14 @@
 //! and nothing of the railway.
 #![tactic(auto)]
 
-pub mod fault;
-pub mod flag;
-pub mod item;
+mod fault;
+mod flag;
+mod item;
 pub mod limits;
 mod matches;
-pub mod order;
+mod order;
 mod orders;
-pub mod parser;
+mod parser;
 #[cfg(test)]
 mod tests;
 mod written;

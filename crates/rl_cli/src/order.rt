@@ -4,13 +4,25 @@ use rl_base::Text;
 #[derive(Debug, Drop)]
 pub enum Order {
     /// Says whether the network text is accepted.
-    Check { net: Text },
+    Check {
+        net: Text,
+    },
     /// Prints the network's tables.
-    Tables { net: Text },
+    Tables {
+        net: Text,
+    },
     /// Drives so many rounds, with so many attempts for each train.
-    Rounds { net: Text, rounds: u32, tries: u32 },
+    Rounds {
+        net: Text,
+        rounds: u32,
+        tries: u32,
+    },
     /// Drives the turns of a schedule.
-    Drive { net: Text, schedule: Text, tries: u32 },
+    Drive {
+        net: Text,
+        schedule: Text,
+        tries: u32,
+    },
     /// Runs on threads until each train rests: on so many, or on as many as the network asks for, with so
     /// many turns of each node between two looks.
     Run {
@@ -20,7 +32,12 @@ pub enum Order {
         round: u32,
     },
     /// Examines a report.
-    Audit { net: Text, report: Text },
+    Audit {
+        net: Text,
+        report: Text,
+    },
     /// Makes a network of so many stations and drives it.
-    Make { n: u32 },
+    Make {
+        n: u32,
+    },
 }

@@ -26,7 +26,12 @@ fn net_of(alloc: Global, words: &[Text]) -> Result<Text, CliFault>
     requires { 0 < length words.now }
     ensures { Answers (net_after (drop 1 words.now)) result }
 {
-    if is_written([Item::File].as_slice(), [].as_slice(), [].as_slice(), &words[1..]) {
+    if is_written(
+        [Item::File].as_slice(),
+        [].as_slice(),
+        [].as_slice(),
+        &words[1..],
+    ) {
         read_net(alloc, words)
     } else {
         Err(CliFault::Usage)
@@ -57,7 +62,12 @@ fn read_rounds(alloc: Global, words: &[Text]) -> Result<Order, CliFault>
 {
     let texts = texts_of(alloc, words)?;
     let options = [Flag::Schedule, Flag::Tries];
-    let matches = matches_of(alloc, ["NET", "N"].as_slice(), options.as_slice(), texts.as_slice())?;
+    let matches = matches_of(
+        alloc,
+        ["NET", "N"].as_slice(),
+        options.as_slice(),
+        texts.as_slice(),
+    )?;
     let net = text_at(alloc, &matches, "NET")?;
     let rounds = needed_number_at(&matches, "N")?;
     let tries = number_at(&matches, "--tries").unwrap_or(USUAL_TRIES);
@@ -70,7 +80,12 @@ fn read_drive(alloc: Global, words: &[Text]) -> Result<Order, CliFault>
 {
     let texts = texts_of(alloc, words)?;
     let options = [Flag::Schedule, Flag::Tries];
-    let matches = matches_of(alloc, ["NET", "N"].as_slice(), options.as_slice(), texts.as_slice())?;
+    let matches = matches_of(
+        alloc,
+        ["NET", "N"].as_slice(),
+        options.as_slice(),
+        texts.as_slice(),
+    )?;
     let net = text_at(alloc, &matches, "NET")?;
     let schedule = text_at(alloc, &matches, "-s")?;
     let tries = number_at(&matches, "--tries").unwrap_or(USUAL_TRIES);
@@ -89,7 +104,12 @@ fn is_for_rounds(words: &[Text]) -> bool
         least: 0,
         most: MOST_ROUNDS,
     };
-    is_written([Item::File, rounds].as_slice(), [Flag::Tries].as_slice(), [].as_slice(), &words[1..])
+    is_written(
+        [Item::File, rounds].as_slice(),
+        [Flag::Tries].as_slice(),
+        [].as_slice(),
+        &words[1..],
+    )
 }
 
 fn is_for_a_schedule(words: &[Text]) -> bool
@@ -97,7 +117,12 @@ fn is_for_a_schedule(words: &[Text]) -> bool
     ensures { result ≡ is_in drive words.now }
 {
     let options = [Flag::Schedule, Flag::Tries];
-    is_written([Item::File].as_slice(), options.as_slice(), [Flag::Schedule].as_slice(), &words[1..])
+    is_written(
+        [Item::File].as_slice(),
+        options.as_slice(),
+        [Flag::Schedule].as_slice(),
+        &words[1..],
+    )
 }
 
 /// `drive NET N` and `drive NET -s SCHEDULE`, each with `--tries` or without.
@@ -120,7 +145,12 @@ fn read_run(alloc: Global, words: &[Text]) -> Result<Order, CliFault>
 {
     let texts = texts_of(alloc, words)?;
     let options = [Flag::Tries, Flag::Workers, Flag::Round];
-    let matches = matches_of(alloc, ["NET"].as_slice(), options.as_slice(), texts.as_slice())?;
+    let matches = matches_of(
+        alloc,
+        ["NET"].as_slice(),
+        options.as_slice(),
+        texts.as_slice(),
+    )?;
     let net = text_at(alloc, &matches, "NET")?;
     let tries = number_at(&matches, "--tries").unwrap_or(USUAL_TRIES);
     let workers = number_at(&matches, "--workers");
@@ -139,7 +169,12 @@ pub fn run_order(alloc: Global, words: &[Text]) -> Result<Order, CliFault>
     ensures { Answers (order_after run (drop 1 words.now)) result }
 {
     let options = [Flag::Tries, Flag::Workers, Flag::Round];
-    if is_written([Item::File].as_slice(), options.as_slice(), [].as_slice(), &words[1..]) {
+    if is_written(
+        [Item::File].as_slice(),
+        options.as_slice(),
+        [].as_slice(),
+        &words[1..],
+    ) {
         read_run(alloc, words)
     } else {
         Err(CliFault::Usage)
@@ -151,7 +186,12 @@ fn read_audit(alloc: Global, words: &[Text]) -> Result<Order, CliFault>
     ensures { Answers (Some (audit.order (given_in audit (drop 1 words.now)))) result }
 {
     let texts = texts_of(alloc, words)?;
-    let matches = matches_of(alloc, ["NET", "REPORT"].as_slice(), [].as_slice(), texts.as_slice())?;
+    let matches = matches_of(
+        alloc,
+        ["NET", "REPORT"].as_slice(),
+        [].as_slice(),
+        texts.as_slice(),
+    )?;
     let net = text_at(alloc, &matches, "NET")?;
     let report = text_at(alloc, &matches, "REPORT")?;
     Ok(Order::Audit { net, report })
@@ -162,7 +202,12 @@ pub fn audit_order(alloc: Global, words: &[Text]) -> Result<Order, CliFault>
     requires { 0 < length words.now }
     ensures { Answers (order_after audit (drop 1 words.now)) result }
 {
-    if is_written([Item::File, Item::File].as_slice(), [].as_slice(), [].as_slice(), &words[1..]) {
+    if is_written(
+        [Item::File, Item::File].as_slice(),
+        [].as_slice(),
+        [].as_slice(),
+        &words[1..],
+    ) {
         read_audit(alloc, words)
     } else {
         Err(CliFault::Usage)
@@ -188,7 +233,12 @@ pub fn make_order(alloc: Global, words: &[Text]) -> Result<Order, CliFault>
         least: 1,
         most: MOST_MADE,
     };
-    if is_written([stations].as_slice(), [].as_slice(), [].as_slice(), &words[1..]) {
+    if is_written(
+        [stations].as_slice(),
+        [].as_slice(),
+        [].as_slice(),
+        &words[1..],
+    ) {
         read_make(alloc, words)
     } else {
         Err(CliFault::Usage)

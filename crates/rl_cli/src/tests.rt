@@ -67,13 +67,34 @@ static WRITTEN: [(&str, &str); 29] = [
     ("run N1 --round 1", "run N1 100 None 1"),
     ("run N1 --round 4096", "run N1 100 None 4096"),
     ("run N1 --round 64 --tries 7", "run N1 7 None 64"),
-    ("run N1 --tries 7 --workers 4 --round 64", "run N1 7 Some(4) 64"),
-    ("run N1 --tries 7 --round 64 --workers 4", "run N1 7 Some(4) 64"),
-    ("run N1 --workers 4 --tries 7 --round 64", "run N1 7 Some(4) 64"),
-    ("run N1 --workers 4 --round 64 --tries 7", "run N1 7 Some(4) 64"),
-    ("run N1 --round 64 --tries 7 --workers 4", "run N1 7 Some(4) 64"),
-    ("run N1 --round 64 --workers 4 --tries 7", "run N1 7 Some(4) 64"),
-    ("run N1 --tries 4 --workers 4 --round 4", "run N1 4 Some(4) 4"),
+    (
+        "run N1 --tries 7 --workers 4 --round 64",
+        "run N1 7 Some(4) 64",
+    ),
+    (
+        "run N1 --tries 7 --round 64 --workers 4",
+        "run N1 7 Some(4) 64",
+    ),
+    (
+        "run N1 --workers 4 --tries 7 --round 64",
+        "run N1 7 Some(4) 64",
+    ),
+    (
+        "run N1 --workers 4 --round 64 --tries 7",
+        "run N1 7 Some(4) 64",
+    ),
+    (
+        "run N1 --round 64 --tries 7 --workers 4",
+        "run N1 7 Some(4) 64",
+    ),
+    (
+        "run N1 --round 64 --workers 4 --tries 7",
+        "run N1 7 Some(4) 64",
+    ),
+    (
+        "run N1 --tries 4 --workers 4 --round 4",
+        "run N1 4 Some(4) 4",
+    ),
     ("audit N1 R", "audit N1 R"),
     ("make 1", "make 1"),
     ("make 32", "make 32"),

@@ -1,4 +1,4 @@
-use Rattle.std.proofs.Common.{◌∙◌, ap₂, refl, map}
+use Rattle.std.proofs.Common.{◌∙◌, ap₂, map}
 use Rattle.clap.specs.Words.{with_rule}
 use Rattle.rl_cli.proofs.AppLemmas.{one_more_positional, one_more_option}
 use Rattle.rl_cli.proofs.matches.command.Goals as goal

@@ -1,6 +1,6 @@
-use Rattle.std.proofs.Common.{◌≡◌, ◌++◌, map, take, List, []}
+use Rattle.std.proofs.Common.{◌≡◌, map, take, []}
 use Rattle.clap.specs.Words.{app_of}
-use Rattle.rl_cli.specs.Apps.{rule_for, app_with}
+use Rattle.rl_cli.specs.Apps.{app_with}
 use Rattle.rl_cli.proofs.matches.command.Given as goal
 
 abbrev pub invariant-loop-id : goal.invariant-loop-id

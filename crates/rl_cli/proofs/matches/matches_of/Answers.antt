@@ -1,4 +1,4 @@
-use Rattle.std.proofs.Common.{◌∙◌, ap, sym, Bor, List, map, ℕ}
+use Rattle.std.proofs.Common.{◌∙◌, ap, Bor, List, map, ℕ}
 use Rattle.clap.specs.Words.{App, takes}
 use Rattle.rl_cli.proofs.matches.matches_of.Goals as goal
 
@@ -8,5 +8,5 @@ returns c =
     record {
       ok = tt;
       err = λ t. absurd (c.in_default.not-OutOfMemory
-      (c.kind.ensures ∙ c.in-Err.ensures.passes (ap (λ (a : App). takes a words) c.in_ok-command.ensures ∙ t)));
+          (c.kind.ensures ∙ c.in-Err.ensures.passes (ap (λ (a : App). takes a words) c.in_ok-command.ensures ∙ t)));
     }

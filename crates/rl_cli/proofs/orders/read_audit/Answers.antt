@@ -1,4 +1,4 @@
-use Rattle.std.proofs.Common.{rules, ◌≡◌, ◌∙◌, refl, ap, sym, map, codes, List, [], ◌∷◌, ℕ, Bor}
+use Rattle.std.proofs.Common.{rules, ◌≡◌, ◌∙◌, refl, sym, map, codes, List, [], ◌∷◌, ℕ, Bor}
 use Rattle.rl_cli.proofs.FormReads.{audit_reads, value_read, fails_for_memory, fault_at, passed_on}
 use Rattle.rl_cli.proofs.orders.read_audit.Goals as goal
 

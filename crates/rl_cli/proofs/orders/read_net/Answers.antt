@@ -1,6 +1,5 @@
-use Rattle.std.proofs.Common.{rules, ◌≡◌, ◌∙◌, refl, ap, sym, map, codes, List, [], ◌∷◌, ℕ, Bor}
+use Rattle.std.proofs.Common.{rules, ◌≡◌, refl, map, codes, List, [], ◌∷◌, ℕ, Bor}
 use Rattle.rl_cli.proofs.FormReads.{check_reads, value_read, fails_for_memory, passed_on}
-use Rattle.rl_cli.specs.declared.flag.Flag.{Flag}
 use Rattle.rl_cli.proofs.orders.read_net.Goals as goal
 
 pub returns-in_err-matches : goal.returns-in_err-matches

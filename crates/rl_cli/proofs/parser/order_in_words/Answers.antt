@@ -1,4 +1,4 @@
-use Rattle.std.proofs.Common.{◌≡◌, ◌∙◌, ◌<◌, ◌≤◌, List, ℕ, Option, ap, sym, subst, arith, drop, length}
+use Rattle.std.proofs.Common.{◌∙◌, ◌<◌, ◌≤◌, List, ℕ, Option, ap, sym, subst, arith, drop, length}
 use Rattle.rl_cli.specs.Orders.{Answers, order_named}
 use Rattle.rl_cli.specs.declared.order.Order.{Order}
 use Rattle.rl_cli.proofs.Laws.{none_of_no_words, order_by_first}
@@ -14,5 +14,5 @@ returns-in-len1-up c =
     let words = c.args.words.now in
     let some : 1 ≤ length c.args.words.now = omega (arith, c.in-len1-up.len_at_least) in
     let named = order_by_first c.args.words.now c.name-item.result some c.name-item.is
-        ∙ ap (λ (n : List ℕ). order_named n (drop 1 c.args.words.now)) (sym c.as_str.ensures) in
+    ∙ ap (λ (n : List ℕ). order_named n (drop 1 c.args.words.now)) (sym c.as_str.ensures) in
     subst (λ (o : Option Order). Answers o c.order_for.result) (sym named) c.order_for.ensures
