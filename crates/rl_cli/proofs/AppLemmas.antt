@@ -24,4 +24,5 @@ pub one_more_option : (ids : List Text) (flags : List Flag) (i : ℕ) (d : Flag)
 one_more_option ids flags i d lt =
     let more : map rule_for (take (i + 1) flags) ≡ map rule_for (take i flags) ++ rule_for (get_or flags i d) ∷ [] =
     ap (map rule_for) (take_more flags i d lt) ∙ map-append rule_for (take i flags) (get_or flags i d ∷ []) in
-    ap with_rules (append_assoc (map new_rule ids) (map rule_for (take i flags)) (rule_for (get_or flags i d) ∷ []) ∙ ap (λ xs. map new_rule ids ++ xs) (sym more))
+    ap with_rules (append_assoc (map new_rule ids) (map rule_for (take i flags)) (rule_for (get_or flags i d) ∷ [])
+    ∙ ap (λ xs. map new_rule ids ++ xs) (sym more))

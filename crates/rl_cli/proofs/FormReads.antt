@@ -1,5 +1,5 @@
 -- What is found at the words of each form.
-use Rattle.std.proofs.Common.{◌≡◌, ◌∙◌, ◌&&◌, ◌||◌, Bool, true, false, List, [], ◌∷◌, drop, take, length, Option, Some, Result, Ok, Err, IsErrAnd, subst, IfSome, lit<, ◌<◌, ◌^◌, refl, sym, ap, true≢false, codes, nat_le}
+use Rattle.std.proofs.Common.{◌≡◌, ◌∙◌, ◌&&◌, ◌||◌, Bool, true, false, List, [], ◌∷◌, drop, take, length, Option, Some, Result, Ok, Err, IsErrAnd, subst, IfSome, lit<, refl, sym, ap, true≢false, codes, nat_le}
 use Rattle.std.specs.List.{list_all}
 use Rattle.std.specs.Prelude.{bytes_eq, slice_get, unwrap_or, not}
 use Rattle.clap.specs.Walk.{Text, arg_by_index, first_of}
@@ -8,7 +8,7 @@ use Rattle.clap.specs.Takes.{takes}
 use Rattle.clap.specs.Matches.{first_value, found_of}
 use Rattle.clap.specs.declared.parser.matches.ArgMatches.{ArgMatches}
 use Rattle.clap.proofs.WalkLemmas.{both, first_value-rows}
-use Rattle.rl_cli.specs.Words.{fits, number}
+use Rattle.rl_cli.specs.Words.{IsSmall, fits}
 use Rattle.rl_cli.specs.Table.{item_of, name_of, audit, check, drive, make, rounds, run, rounds_asked, schedule_of, stations_asked, value, word}
 use Rattle.rl_cli.specs.Written.{fit, has_option, is_option_of}
 use Rattle.rl_cli.specs.Orders.{Answers, are_options, given_in, is_after_name, is_in, pairs}
@@ -46,14 +46,17 @@ passed_on (Ok x) u e is answers = absurd is
 passed_on (Err y) u e is answers = subst (λ (z : CliFault). Answers (Some u) (Err z)) (sym is) answers
 
 -- the command takes the words of the form, so it fails for memory alone
-pub fails_for_memory : {U : Type 0} (u : U) (ids ids' : List Text) (flags flags' : List Flag) (words words' : List Text) (given : List (Text × Text)) (e : CliFault)
-    → ids' ≡ ids → flags' ≡ flags → words' ≡ words → Reads ids flags words given → (takes (app_with ids' flags') words' ≡ true → e ≡ NoMemory) → Answers (Some u) (Err e)
+pub fails_for_memory : {U : Type 0} (u : U) (ids ids' : List Text) (flags flags' : List Flag) (words words' : List Text) (given : List
+    (Text × Text)) (e : CliFault)
+    → ids' ≡ ids → flags' ≡ flags → words' ≡ words → Reads ids flags words given → (takes (app_with ids' flags') words' ≡ true → e ≡ NoMemory)
+    → Answers (Some u) (Err e)
 fails_for_memory {U} u ids ids' flags flags' words words' given e a b w reads fails =
     subst (λ (z : CliFault). Answers {T = U} (Some u) (Err z)) (sym (fails ((λ i. takes (app_with (a i) (b i)) (w i)) ∙ reads.takes))) refl
 
 -- what a getter gives, where the command is as it is
 pub value_read : (ids ids' : List Text) (flags flags' : List Flag) (words words' : List Text) (given : List (Text × Text)) (m : ArgMatches)
-    → ids' ≡ ids → flags' ≡ flags → words' ≡ words → Reads ids flags words given → is_simple (app_with ids flags) ≡ true → HasMatchesOf (app_with ids' flags') words' m
+    → ids' ≡ ids → flags' ≡ flags → words' ≡ words → Reads ids flags words given → is_simple (app_with ids flags) ≡ true
+    → HasMatchesOf (app_with ids' flags') words' m
     → (id : Text) → first_value (found_of m) id ≡ lookup id given
 value_read ids ids' flags flags' words words' given m a b w reads simple has =
     value_found ids flags words given m reads simple (subst (λ (ws : List Text). HasMatchesOf (app_with ids flags) ws m) w
@@ -67,7 +70,8 @@ pub record HasParts (items : List Item) (flags musts : List Flag) (words : List 
   pub options : are_options flags (drop (length items) words) ≡ true
   pub needed : list_all (λ flag. has_option (pairs (drop (length items) words)) (name_of flag)) musts ≡ true
 
-pub parts : (items : List Item) (flags musts : List Flag) (words : List Text) → is_after_name items flags musts words ≡ true → HasParts items flags musts words
+pub parts : (items : List Item) (flags musts : List Flag) (words : List Text) → is_after_name items flags musts words ≡ true
+    → HasParts items flags musts words
 unfolding is_after_name
 parts items flags musts words e =
     let p = both (nat_le (length items) (length words)) _ e in
@@ -85,7 +89,8 @@ no_flags word Workers = refl
 no_flags word Round = refl
 
 -- NET and options
-net_reads : (flags musts : List Flag) (words : List Text) → is_simple (app_with (codes "NET" ∷ []) flags) ≡ true → IsLoose (shape_with (codes "NET" ∷ []) flags)
+net_reads : (flags musts : List Flag) (words : List Text) → is_simple (app_with (codes "NET" ∷ []) flags) ≡ true
+    → IsLoose (shape_with (codes "NET" ∷ []) flags)
     → arg_by_index (shape_with (codes "NET" ∷ []) flags).rules 1 ≡ Some (positional_rule (codes "NET") 1)
     → IsArgument (shape_with (codes "NET" ∷ []) flags).rules (codes "NET") → HasOptions (shape_with (codes "NET" ∷ []) flags) flags
     → is_after_name (File ∷ []) flags musts (drop 1 words) ≡ true
@@ -173,7 +178,11 @@ audit_no_flags net report Workers = refl
 audit_no_flags net report Round = refl
 
 pub audit_reads : (words : List Text) → is_in audit words ≡ true
-    → Reads (codes "NET" ∷ codes "REPORT" ∷ []) [] words ((codes "NET", word (given_in audit (drop 1 words)) 0) ∷ (codes "REPORT", word (given_in audit (drop 1 words)) 1)
+    → Reads (codes "NET" ∷ codes "REPORT" ∷ []) [] words ((codes "NET", word (given_in audit (drop 1 words)) 0) ∷ (
+      codes "REPORT",
+      word
+          (given_in audit (drop 1 words)) 1,
+    )
     ∷ (given_in audit (drop 1 words)).options)
 audit_reads [] e = absurd (true≢false (sym (parts (File ∷ File ∷ []) [] [] [] e).enough))
 audit_reads (name ∷ []) e = absurd (true≢false (sym (parts (File ∷ File ∷ []) [] [] [] e).enough))
@@ -184,7 +193,8 @@ audit_reads (name ∷ net ∷ report ∷ words) e =
     let g = both (fits File report) _ f.1 in
     parse_reads (codes "NET" ∷ codes "REPORT" ∷ []) [] name (net ∷ report ∷ words) ((codes "NET", net) ∷ (codes "REPORT", report) ∷ pairs words) _
     (two_simple (codes "NET") (codes "REPORT")) (two_loose (codes "NET") (codes "REPORT"))
-    (two_found (shape_with (codes "NET" ∷ codes "REPORT" ∷ []) []) (codes "NET") (codes "REPORT") [] net report words refl refl audit_net audit_report refl refl tt
+    (two_found (shape_with (codes "NET" ∷ codes "REPORT" ∷ []) []) (codes "NET")
+    (codes "REPORT") [] net report words refl refl audit_net audit_report refl refl tt
     (audit_no_flags net report) f.0 g.0 p.options)
 
 make_n : IsArgument (shape_with (codes "N" ∷ []) []).rules (codes "N")
@@ -207,9 +217,6 @@ make_reads (name ∷ n ∷ words) e =
     (one_found (shape_with (codes "N" ∷ []) []) (codes "N") [] n words refl make_n refl tt (make_no_flags n) (fits_plain stations_asked n f.0) p.options)
 
 -- ---- the numbers of the forms, and what must be there
-
-abbrev pub IsSmall : Text → Type 0
-IsSmall w = number w < 2 ^ 32
 
 pub small_as : (found o : Option Text) → found ≡ o → IfSome o IsSmall → IfSome found IsSmall
 small_as found o is small = subst (λ (x : Option Text). IfSome x IsSmall) (sym is) small

@@ -95,7 +95,8 @@ options_are s flags before (p ∷ rest) has apart e =
 
 pub one_found : (s : Shape) (id : Text) (flags : List Flag) (word : Text) (words : List Text) → arg_by_index s.rules 1 ≡ Some (positional_rule id 1)
     → IsArgument s.rules id → s.args_override_self ≡ false → HasOptions s flags → AreNoFlags ((id, word) ∷ [])
-    → is_plain word ≡ true → are_options flags words ≡ true → Finds s (walk_from nothing_held) (word ∷ words) ((id, word) ∷ pairs words) (min (1 + 1) usize_max)
+    → is_plain word ≡ true → are_options flags words ≡ true → Finds s (walk_from nothing_held) (word ∷ words) ((id, word) ∷ pairs words) (min
+    (1 + 1) usize_max)
 one_found s id flags [] words at argument single has apart plain options = absurd (true≢false (sym plain))
 one_found s id flags (b ∷ rest) words at argument single has apart plain options =
     let word : Text = b ∷ rest in
@@ -107,7 +108,8 @@ one_found s id flags (b ∷ rest) words at argument single has apart plain optio
     (settled_after s.rules [] [] p argument refl refl) (passes_after s.rules [] [] p argument refl refl) are.0 are.1 parts.2 in
     first_word s (standing [] None 1) _ word words (p ∷ pairs words) (min (1 + 1) usize_max)
     (positional_walked b rest no s.rules id [] None 1 at) (positional_passes_at b rest no s id [] None 1 at refl)
-    (subst (λ (ws : List Text). Finds s (standing [] (Some (id, word ∷ [])) (min (1 + 1) usize_max)) ws (p ∷ pairs words) (min (1 + 1) usize_max)) parts.0 found)
+    (subst (λ (ws : List Text). Finds s (standing [] (Some (id, word ∷ [])) (min (1 + 1) usize_max)) ws (p ∷ pairs words) (min
+    (1 + 1) usize_max)) parts.0 found)
 
 pub two_found : (s : Shape) (id id' : Text) (flags : List Flag) (word word' : Text) (words : List Text)
     → arg_by_index s.rules 1 ≡ Some (positional_rule id 1) → arg_by_index s.rules 2 ≡ Some (positional_rule id' 2)
@@ -134,7 +136,9 @@ two_found s id id' flags (b ∷ rest) (b' ∷ rest') words at at' argument argum
     let found = options_found s (min (2 + 1) usize_max) rows (Some (id', word' ∷ [])) (p ∷ p' ∷ []) (pairs words)
     (settled_after s.rules rows (p ∷ []) p' argument' settled new) (passes_after s.rules rows (p ∷ []) p' argument' settled new) are.0 are.1 parts.2 in
     let second = first_word s (standing [] (Some (id, word ∷ [])) 2) _ word' words (p ∷ p' ∷ pairs words) (min (2 + 1) usize_max)
-    (positional_walked b' rest' no' s.rules id' [] (Some (id, word ∷ [])) 2 at') (positional_passes_at b' rest' no' s id' [] (Some (id, word ∷ [])) 2 at' passes)
-    (subst (λ (ws : List Text). Finds s (standing rows (Some (id', word' ∷ [])) (min (2 + 1) usize_max)) ws (p ∷ p' ∷ pairs words) (min (2 + 1) usize_max)) parts.0 found) in
+    (positional_walked b' rest' no' s.rules id' [] (Some (id, word ∷ [])) 2 at') (positional_passes_at b' rest' no' s id' [] (Some
+    (id, word ∷ [])) 2 at' passes)
+    (subst (λ (ws : List Text). Finds s (standing rows (Some (id', word' ∷ [])) (min (2 + 1) usize_max)) ws (p ∷ p' ∷ pairs words) (min
+    (2 + 1) usize_max)) parts.0 found) in
     first_word s (standing [] None 1) _ word (word' ∷ words) (p ∷ p' ∷ pairs words) (min (2 + 1) usize_max)
     (positional_walked b rest no s.rules id [] None 1 at) (positional_passes_at b rest no s id [] None 1 at refl) second

@@ -28,7 +28,8 @@ use Rattle.rl_cli.proofs.FormReads.{parts}
 after_written : (f : Form) (words : List Text) (order : Order) → order_after f words ≡ Some order → IsWrittenAs f (f.name ∷ words) order
 after_written f words order e = go (is_after_name f.positionals f.options f.needs words) refl e
   where
-    go : (b : Bool) → is_after_name f.positionals f.options f.needs words ≡ b → cond b (Some (f.order (given_in f words))) None ≡ Some order → IsWrittenAs f (f.name ∷ words) order
+    go : (b : Bool) → is_after_name f.positionals f.options f.needs words ≡ b → cond b (Some (f.order (given_in f words))) None ≡ Some order
+        → IsWrittenAs f (f.name ∷ words) order
     go true is e =
         let p = parts f.positionals f.options f.needs words is in
         let n = length f.positionals in
@@ -153,13 +154,16 @@ second_is x y next order e f = ap₂ (λ o p. or_else o (or_else p next)) e f
 pub written_complete : (words : List Text) (order : Order) → IsWritten words order → order_of words ≡ Some order
 unfolding order_of IsWritten
 written_complete words order written = elim written [
-  | inl w ↦ ap order_of w.spelled ∙ first_is (order_in check (words_in check w.given)) (order_among (tables ∷ rounds ∷ drive ∷ run ∷ audit ∷ make ∷ []) (words_in check w.given)) order
+  | inl w ↦ ap order_of w.spelled ∙ first_is (order_in check (words_in check w.given)) (order_among
+      (tables ∷ rounds ∷ drive ∷ run ∷ audit ∷ make ∷ []) (words_in check w.given)) order
       (after_complete check w.given w.asked ∙ ap Some (sym w.gives))
   | inr w ↦ elim w [
-    | inl w ↦ ap order_of w.spelled ∙ first_is (order_in tables (words_in tables w.given)) (order_among (rounds ∷ drive ∷ run ∷ audit ∷ make ∷ []) (words_in tables w.given)) order
+    | inl w ↦ ap order_of w.spelled ∙ first_is (order_in tables (words_in tables w.given)) (order_among (rounds ∷ drive ∷ run ∷ audit ∷ make ∷ [])
+        (words_in tables w.given)) order
         (after_complete tables w.given w.asked ∙ ap Some (sym w.gives))
     | inr w ↦ elim w [
-      | inl w ↦ ap order_of w.spelled ∙ first_is (order_in rounds (words_in rounds w.given)) (order_among (drive ∷ run ∷ audit ∷ make ∷ []) (words_in rounds w.given)) order
+      | inl w ↦ ap order_of w.spelled ∙ first_is (order_in rounds (words_in rounds w.given)) (order_among (drive ∷ run ∷ audit ∷ make ∷ [])
+          (words_in rounds w.given)) order
           (after_complete rounds w.given w.asked ∙ ap Some (sym w.gives))
       | inr w ↦ elim w [
         | inl w ↦ ap order_of w.spelled ∙ second_is (order_in rounds (words_in drive w.given)) (order_in drive (words_in drive w.given))
@@ -172,7 +176,8 @@ written_complete words order written = elim written [
             | inl w ↦ ap order_of w.spelled ∙ first_is (order_in audit (words_in audit w.given)) (order_among (make ∷ []) (words_in audit w.given)) order
                 (after_complete audit w.given w.asked ∙ ap Some (sym w.gives))
             | inr w ↦ elim w [
-              | inl w ↦ ap order_of w.spelled ∙ first_is (order_in make (words_in make w.given)) None order (after_complete make w.given w.asked ∙ ap Some (sym w.gives))
+              | inl w ↦ ap order_of w.spelled ∙ first_is (order_in make (words_in make w.given)) None order (after_complete make w.given w.asked
+                  ∙ ap Some (sym w.gives))
               | inr w ↦ absurd w
             ]
           ]
@@ -229,7 +234,8 @@ answers_usage words r answers is order written =
     let some = written_complete words order written in
     cc
 
-pub usage_answers : (words : List Text) (r : Result Order CliFault) → Answers (order_of words) r → ((order : Order) → IsWritten words order → ⊥) → r ≡ Err Usage
+pub usage_answers : (words : List Text) (r : Result Order CliFault) → Answers (order_of words) r → ((order : Order) → IsWritten words order → ⊥)
+    → r ≡ Err Usage
 usage_answers words (Ok order) answers none = absurd (none order (answers_written words (Ok order) answers))
 usage_answers words (Err Usage) answers none = refl
 usage_answers words (Err NoMemory) answers none = go (order_of words) refl answers

@@ -57,7 +57,8 @@ same_name Round Tries e = absurd (true≢false (sym e))
 same_name Round Workers e = absurd (true≢false (sym e))
 same_name Round Round e = refl
 
-option_fits : (flags : List Flag) (flag : Flag) (p : Text × Text) → is_option_of flags p ≡ true → bytes_eq p.0 (name_of flag) ≡ true → fits (item_of flag) p.1 ≡ true
+option_fits : (flags : List Flag) (flag : Flag) (p : Text × Text) → is_option_of flags p ≡ true → bytes_eq p.0 (name_of flag) ≡ true
+    → fits (item_of flag) p.1 ≡ true
 option_fits [] flag p e named = absurd (true≢false (sym e))
 option_fits (f ∷ flags) flag p e named = elim (either _ _ e) [
   | inl h ↦

@@ -44,7 +44,8 @@ at_new id change missing (r ∷ rs) e =
 pub put_new : (id v : Text) (rows : List Row) → has_row id rows ≡ false
     → with_values id AsWritten CommandLine (v ∷ []) (without id rows) ≡ rows ++ as_row (id, v) ∷ []
 put_new id v rows e =
-    ap (with_values id AsWritten CommandLine (v ∷ [])) (at_new id (λ _. []) [] rows e ∙ append-nil rows) ∙ at_new id (more_values CommandLine (v ∷ [])) (as_row (id, v) ∷ []) rows e
+    ap (with_values id AsWritten CommandLine (v ∷ [])) (at_new id (λ _. []) [] rows e ∙ append-nil rows)
+    ∙ at_new id (more_values CommandLine (v ∷ [])) (as_row (id, v) ∷ []) rows e
 
 pub has_row-map : (id : Text) (given : List (Text × Text)) → has_row id (map as_row given) ≡ has_option given id
 has_row-map id given = sym (list_any-map (λ (r : Row). bytes_eq r.id id) as_row given)

@@ -96,11 +96,15 @@ pub passes_after : (c : List Rule) (rows : List Row) (before : List (Text × Tex
 passes_after c rows before p argument is new = argument.passes p.1 rows (ap (has_row p.0) is ∙ has_row-map p.0 before ∙ new)
 
 -- no option of a list has the name of one of a list that p ends
-still_new : (before : List (Text × Text)) (p : Text × Text) (rest : List (Text × Text)) → AreNew before rest → has_option rest p.0 ≡ false → AreNew (before ++ p ∷ []) rest
+still_new : (before : List (Text × Text)) (p : Text × Text) (rest : List (Text × Text)) → AreNew before rest → has_option rest p.0 ≡ false
+    → AreNew (before ++ p ∷ []) rest
 still_new before p [] new apart = tt
 still_new before p (q ∷ rest) new apart =
-    let e = neither (bytes_eq q.0 p.0) (has_option rest p.0) apart in
-    (list_any-append (λ (x : Text × Text). bytes_eq x.0 q.0) before (p ∷ []) ∙ ap₂ (λ a b. a || (b || false)) new.0 (bytes_eq-sym p.0 q.0 ∙ e.0), still_new before p rest new.1 e.1)
+    let e = neither (bytes_eq q.0 p.0) (has_option rest p.0) apart in (
+      list_any-append (λ (x : Text × Text). bytes_eq x.0 q.0) before (p ∷ []) ∙ ap₂ (λ a b. a || (b || false)) new.0 (bytes_eq-sym p.0 q.0
+          ∙ e.0),
+      still_new before p rest new.1 e.1,
+    )
 
 -- a walk over options with their values finds them
 pub options_found : (s : Shape) (i : ℕ) (rows : List Row) (pending : Pending) (before given : List (Text × Text))
@@ -134,7 +138,8 @@ options_found s i rows pending before (p ∷ rest) settled settles options new o
 
 module _ (b : ℕ) (rest : Text) (no : (b == 45) ≡ false) where
   -- the value of an option
-  pub value_walked : (c : List Rule) (name : Text) (a : Rule) (rows : List Row) (i : ℕ) → arg_by_id c name ≡ Some a → bytes_eq name a.id ≡ true → most_values a ≡ 1
+  pub value_walked : (c : List Rule) (name : Text) (a : Rule) (rows : List Row) (i : ℕ) → arg_by_id c name ≡ Some a → bytes_eq name a.id ≡ true
+      → most_values a ≡ 1
       → walked c [] (awaiting rows name i) (b ∷ rest) ≡ standing rows (Some (name, (b ∷ rest) ∷ [])) i
   unfolding walked
   value_walked c name a rows i at same one = rw no (rw no (rw at (rw (same, one) refl)))
@@ -194,5 +199,6 @@ level_found s words given i single loose found =
     && (list_all default_passes s.rules && is_valid s (finished s.rules w.held) false)) in
     let settles : settle_passes s.rules s.args_override_self last ≡ true = ap (λ b. settle_passes s.rules b last) single ∙ found.settles in (
       ap checks found.end ∙ conj _ _ found.passes (conj _ _ settles (conj _ _ loose.defaults_pass (loose.valid (finished s.rules last)))),
-      ap (λ (w : Walk). finished s.rules w.held) found.end ∙ defaults_stay s.rules (settled_rows s.rules found.pending found.rows) loose.defaults ∙ found.settled,
+      ap (λ (w : Walk). finished s.rules w.held) found.end ∙ defaults_stay s.rules (settled_rows s.rules found.pending found.rows) loose.defaults
+          ∙ found.settled,
     )

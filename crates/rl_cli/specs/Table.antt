@@ -7,7 +7,7 @@ use Rattle.rl_cli.specs.declared.item.Item.TheVariants.{File, Number}
 use Rattle.rl_cli.specs.declared.flag.Flag.{Flag}
 use Rattle.rl_cli.specs.declared.flag.Flag.TheVariants.{Schedule, Tries, Workers, Round}
 use Rattle.rl_cli.specs.declared.order.Order.{Order}
-use Rattle.rl_cli.specs.declared.order.Order.TheVariants as order
+use Rattle.rl_cli.specs.declared.order.Order.TheVariants.{Check, Tables, Rounds, Drive, Run, Audit, Make}
 
 -- how an option is written
 abbrev pub name_of : Flag → Text
@@ -69,27 +69,34 @@ rounds_asked = Number 0 1000000
 abbrev pub stations_asked : Item
 stations_asked = Number 1 32
 
--- the table: name, positionals, options, those that must be there, order
+-- the table: name, positionals, options, those that must be there, and the order
 abbrev pub check : Form
-check = form (codes "check") (File ∷ []) [] [] (λ g. order.Check (word g 0))
+check = form (codes "check") (File ∷ []) [] []
+    (λ g. Check (word g 0))
 
 abbrev pub tables : Form
-tables = form (codes "tables") (File ∷ []) [] [] (λ g. order.Tables (word g 0))
+tables = form (codes "tables") (File ∷ []) [] []
+    (λ g. Tables (word g 0))
 
 abbrev pub rounds : Form
-rounds = form (codes "drive") (File ∷ rounds_asked ∷ []) (Tries ∷ []) [] (λ g. order.Rounds (word g 0) (number (word g 1)) (tries_of g))
+rounds = form (codes "drive") (File ∷ rounds_asked ∷ []) (Tries ∷ []) []
+    (λ g. Rounds (word g 0) (number (word g 1)) (tries_of g))
 
 abbrev pub drive : Form
-drive = form (codes "drive") (File ∷ []) (Schedule ∷ Tries ∷ []) (Schedule ∷ []) (λ g. order.Drive (word g 0) (schedule_of g) (tries_of g))
+drive = form (codes "drive") (File ∷ []) (Schedule ∷ Tries ∷ []) (Schedule ∷ [])
+    (λ g. Drive (word g 0) (schedule_of g) (tries_of g))
 
 abbrev pub run : Form
-run = form (codes "run") (File ∷ []) (Tries ∷ Workers ∷ Round ∷ []) [] (λ g. order.Run (word g 0) (tries_of g) (count g Workers) (round_of g))
+run = form (codes "run") (File ∷ []) (Tries ∷ Workers ∷ Round ∷ []) []
+    (λ g. Run (word g 0) (tries_of g) (count g Workers) (round_of g))
 
 abbrev pub audit : Form
-audit = form (codes "audit") (File ∷ File ∷ []) [] [] (λ g. order.Audit (word g 0) (word g 1))
+audit = form (codes "audit") (File ∷ File ∷ []) [] []
+    (λ g. Audit (word g 0) (word g 1))
 
 abbrev pub make : Form
-make = form (codes "make") (stations_asked ∷ []) [] [] (λ g. order.Make (number (word g 0)))
+make = form (codes "make") (stations_asked ∷ []) [] []
+    (λ g. Make (number (word g 0)))
 
 abbrev pub forms : List Form
 forms = check ∷ tables ∷ rounds ∷ drive ∷ run ∷ audit ∷ make ∷ []

@@ -1,6 +1,7 @@
-ghost use Rattle.std.specs.Prelude.{◌≡◌, ◌<◌, ◌^◌, Some, None, true, false, map, option_map, IfSome, IfOk, IfErr};
+ghost use Rattle.std.specs.Prelude.{◌≡◌, None, Some, true, false, option_map, IfSome, IfOk, IfErr};
 ghost use Rattle.clap.specs.Words.{app_of, rule_of, takes, first_value, found_of, HasMatchesOf};
-ghost use Rattle.rl_cli.specs.Words.{number};
+ghost use Rattle.clap.specs.Walk.{texts};
+ghost use Rattle.rl_cli.specs.Words.{number, IsSmall};
 ghost use Rattle.rl_cli.specs.Orders.{Answers};
 ghost use Rattle.rl_cli.specs.Apps.{rule_for, app_with};
 
@@ -32,7 +33,7 @@ fn command<'a>(
     positionals: &[&'a str],
     options: &[Flag],
 ) -> Result<Command<'a>, AllocError>
-    ensures { IfOk result (λ c. app_of c ≡ app_with (map (λ s. s.now) positionals.now) options.now) }
+    ensures { IfOk result (λ c. app_of c ≡ app_with (texts positionals.now) options.now) }
 {
     let mut command = Command::new(alloc, "relis").disable_help_flag(true);
     for id in positionals {
@@ -52,8 +53,9 @@ pub fn matches_of<'a>(
     options: &[Flag],
     words: &'a [&'a str],
 ) -> Result<ArgMatches<'a>, CliFault>
-    ensures ok { IfOk result (HasMatchesOf (app_with (map (λ s. s.now) positionals.now) options.now) (map (λ s. s.now) words.entry.now)) }
-    ensures err { IfErr result (λ e. takes (app_with (map (λ s. s.now) positionals.now) options.now) (map (λ s. s.now) words.entry.now) ≡ true → e ≡ CliFault.NoMemory) }
+    ensures ok { IfOk result (HasMatchesOf (app_with (texts positionals.now) options.now) (texts words.entry.now)) }
+    ensures err { IfErr result (λ e. takes (app_with (texts positionals.now) options.now) (texts words.entry.now) ≡ true
+        → e ≡ CliFault.NoMemory) }
 {
     let command = command(alloc, positionals, options)?;
     match command.try_get_matches_from(words) {
@@ -67,7 +69,7 @@ pub fn matches_of<'a>(
 
 /// The words as texts that `clap` reads.
 pub fn texts_of(alloc: Global, words: &[Text]) -> Result<Vec<&str>, AllocError>
-    ensures { IfOk result (λ texts. map (λ s. s.now) texts.items ≡ words.now) }
+    ensures { IfOk result (λ all. texts all.items ≡ words.now) }
 {
     let mut texts = Vec::new(alloc);
     for word in words {
@@ -88,7 +90,7 @@ pub fn text_at(alloc: Global, matches: &ArgMatches<'_>, id: &str) -> Result<Text
 
 /// The number that a word writes which writes one of 32 bits.
 fn number(word: &str) -> u32
-    ensures { number word.now < 2 ^ 32 → result ≡ number word.now }
+    ensures { IsSmall word.now → result ≡ number word.now }
 {
     match read_number(word.as_bytes()) {
         Some(n) if n <= u64::from(u32::MAX) => n as u32,
@@ -98,14 +100,16 @@ fn number(word: &str) -> u32
 
 /// The number that was read as this argument, if it was given.
 pub fn number_at(matches: &ArgMatches<'_>, id: &str) -> Option<u32>
-    ensures { IfSome (first_value (found_of matches.now) id.now) (λ word. number word < 2 ^ 32) → result ≡ option_map number (first_value (found_of matches.now) id.now) }
+    ensures { IfSome (first_value (found_of matches.now) id.now) IsSmall
+        → result ≡ option_map number (first_value (found_of matches.now) id.now) }
 {
     matches.get_str(id).map(|word| number(word))
 }
 
 /// The number that was read as this argument, which was given.
 pub fn needed_number_at(matches: &ArgMatches<'_>, id: &str) -> Result<u32, CliFault>
-    ensures { IfSome (first_value (found_of matches.now) id.now) (λ word. number word < 2 ^ 32) → Answers (option_map number (first_value (found_of matches.now) id.now)) result }
+    ensures { IfSome (first_value (found_of matches.now) id.now) IsSmall
+        → Answers (option_map number (first_value (found_of matches.now) id.now)) result }
 {
     match number_at(matches, id) {
         Some(n) => Ok(n),
