@@ -1,0 +1,9 @@
+//! The mind of a box: the letter that it has in hand, which word it looks at, and what it does with it.
+//!
+//! It gives upward a step of a box as a sentence over one mind and one word, and `act`, which makes exactly that
+//! step. A box looks into its own table and at one word; it sees no other box and no train.
+#![tactic(auto)]
+
+pub mod mind;
+
+pub use mind::{Answer, BoxMind, Work};
