@@ -1,17 +1,34 @@
-ghost use Rattle.std.specs.Prelude.{◌≡◌, ◌<◌, ◌≤◌, Some, None, IfSome};
+ghost use Rattle.std.specs.Prelude.{◌≡◌, ◌<◌, ◌≤◌, None, IfSome};
 ghost use Rattle.rl_base.specs.declared.layout.WordKind.{WordKind};
 ghost use Rattle.rl_base.specs.declared.layout.WordKind.TheVariants as kinds;
 ghost use Rattle.rl_base.specs.Layout.{word_count, word_number, HasWord};
 ghost use Rattle.rl_words.specs.Lock.{FitsPath};
 ghost use Rattle.rl_words.specs.Mail.{FitsLetter};
+ghost use Rattle.rl_box.specs.Glance.{asks_box, says_moved, may_step};
 ghost use Rattle.rl_box.specs.Mind.{box_at, IsAnswer, IsBoxMind};
 ghost use Rattle.rl_box.specs.Steps.{box_step, box_target};
 
+use crate::laws::{box_glances, box_steps};
 use crate::mind::{Answer, BoxMind, Work};
 use crate::{mail, points, reservations};
 use rl_base::{Layout, TrainId, Verb, WordKind, WordNo};
 use rl_tables::BoxTable;
 use rl_words::{Letter, LockWord, MailWord, Path, ResvWord};
+
+/// Whether the lowest ten bits are those of a letter to the box that is asked.
+fn asks_box(b: &BoxTable, payload: u32) -> bool
+    requires { b.now.number.0 < 128 }
+    ensures { result ≡ asks_box b.now payload }
+{
+    payload & 0x3ff == 1 + 8 * b.number.0
+}
+
+/// Whether the lowest three bits are those of points that have moved.
+fn says_moved(payload: u32) -> bool
+    ensures { result ≡ says_moved payload }
+{
+    payload & 7 == 3
+}
 
 impl BoxMind {
     /// The word at which the box looks, at its scan place while it is ready: the mail words of all trains, and after
@@ -47,15 +64,36 @@ impl BoxMind {
         ensures step { (kind : WordKind) → HasWord lay.now kind → word_number lay.now kind ≡ w.0 → result ≡ box_step b.now self.now kind payload }
         ensures kept { IfSome result (λ r. IsBoxMind lay.now b.now r.1) }
     {
+        // Where a glance says no there is no step, for the proof.
+        box_glances();
+        if !self.may_step(b, payload) {
+            return None;
+        }
         let kind = lay.word_kind(w);
+        // The mind after a step is well formed, for the proof.
+        box_steps();
         self.step(lay, b, kind, payload)
+    }
+
+    /// Whether a step may fit a word at the payload, of whatever kind it is: a box that is ready takes a letter to it,
+    /// or finds that the points that it waits for have moved.
+    fn may_step(&self, b: &BoxTable, payload: u32) -> bool
+        requires { b.now.number.0 < 128 }
+        ensures { result ≡ may_step b.now self.now.work self.now.waiting payload }
+    {
+        match self.work {
+            Work::Ready => {
+                asks_box(b, payload) || (says_moved(payload) && self.waiting.is_some())
+            }
+            Work::Serve(_, _) | Work::Say(_, _, _) => true,
+        }
     }
 
     #[tactic(auto, unfolding(crate::specs::Steps::box_step))]
     fn step(&self, lay: &Layout, b: &BoxTable, kind: WordKind, payload: u32) -> Option<(u32, BoxMind)>
         requires trains { lay.now.trains ≤ 32 }
         requires mind { IsBoxMind lay.now b.now self.now }
-        ensures step { result ≡ box_step b.now self.now kind payload }
+        ensures { result ≡ box_step b.now self.now kind payload }
     {
         match (kind, self.work) {
             (WordKind::Mail(t), Work::Ready) => self.take(b, t, payload),
@@ -76,7 +114,7 @@ impl BoxMind {
     #[tactic(auto, unfolding(crate::specs::Steps::box_step))]
     fn take(&self, b: &BoxTable, t: TrainId, payload: u32) -> Option<(u32, BoxMind)>
         requires work { self.now.work ≡ Work.Ready }
-        ensures step { result ≡ box_step b.now self.now (kinds.Mail t) payload }
+        ensures { result ≡ box_step b.now self.now (kinds.Mail t) payload }
     {
         let (word, work) = mail::take(b, t, MailWord::unpack(payload)?)?;
         Some((word.pack(), self.with_work(work)))
@@ -87,7 +125,7 @@ impl BoxMind {
         requires work { self.now.work ≡ Work.Say to letter answer }
         requires letter { FitsLetter letter }
         requires answer { IsAnswer answer }
-        ensures step { result ≡ box_step b.now self.now (kinds.Mail t) payload }
+        ensures { result ≡ box_step b.now self.now (kinds.Mail t) payload }
     {
         let (word, work) = mail::say(b, t, to, letter, answer, MailWord::unpack(payload)?)?;
         Some((word.pack(), self.with_work(work)))
@@ -98,7 +136,7 @@ impl BoxMind {
         requires work { self.now.work ≡ Work.Serve t letter }
         requires train { t.0 < 32 }
         requires letter { FitsLetter letter }
-        ensures step { result ≡ box_step b.now self.now (kinds.Resv b.now.number) payload }
+        ensures { result ≡ box_step b.now self.now (kinds.Resv b.now.number) payload }
     {
         let (word, answer) = reservations::serve(t, letter, ResvWord::unpack(payload)?)?;
         Some((word.pack(), self.with_work(Work::Say(t, letter, answer))))
@@ -109,7 +147,7 @@ impl BoxMind {
         requires work { self.now.work ≡ Work.Serve t letter }
         requires train { t.0 < 32 }
         requires letter { FitsLetter letter }
-        ensures step { result ≡ box_step b.now self.now (kinds.Lock b.now.number) payload }
+        ensures { result ≡ box_step b.now self.now (kinds.Lock b.now.number) payload }
     {
         if self.waiting.is_some() {
             return None;
@@ -122,7 +160,7 @@ impl BoxMind {
     fn wait(&self, b: &BoxTable, payload: u32) -> Option<(u32, BoxMind)>
         requires work { self.now.work ≡ Work.Ready }
         requires path { IfSome self.now.waiting FitsPath }
-        ensures step { result ≡ box_step b.now self.now (kinds.Lock b.now.number) payload }
+        ensures { result ≡ box_step b.now self.now (kinds.Lock b.now.number) payload }
     {
         let (word, after) = points::wait(b, self.waiting?, LockWord::unpack(payload)?)?;
         Some((word.pack(), after))
