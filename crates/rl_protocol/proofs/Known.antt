@@ -36,7 +36,7 @@ pub record HasTaken (line : Line) (s : State) (b t : ℕ) (l : Letter) : Type 0 
 abbrev pub Known : Line → State → Step → Type 0
 Known line s (post t l) = passes (s.trains t).job ≡ false
 Known line s (hear_yes t l) = passes (s.trains t).job ≡ false
-Known line s (hear_no t l u) = passes (s.trains t).job ≡ false
+Known line s (hear_no t l u job) = passes (s.trains t).job ≡ false
 Known line s (go t) = s.mail t ≡ Empty
 Known line s (quiet t) = s.mail t ≡ Empty
 Known line s (take b t l) = Waits line s t l
@@ -85,7 +85,7 @@ taken_path line s b p old h = taken line s b p.train.0 (letter_of_path b p) old 
 pub known : (line : Line) (s : State) (step : Step) → AgreesOnMailboxes line s → AgreesOnLocks line s → Fits line s step → Known line s step
 known line s (post t l) old locks fits = letter_not_passing (s.trains t).job _ l fits.2
 known line s (hear_yes t l) old locks fits = letter_not_passing (s.trains t).job _ l fits.1
-known line s (hear_no t l u) old locks fits = letter_not_passing (s.trains t).job _ l fits.1
+known line s (hear_no t l u job) old locks fits = letter_not_passing (s.trains t).job _ l fits.1
 known line s (go t) old locks fits = old.empty t (grind (arith, nat_tests))
 known line s (quiet t) old locks fits = old.empty t (grind (arith, nat_tests))
 known line s (take b t l) old locks fits = asked line s t l old fits.1

@@ -43,7 +43,7 @@ asked_kept line s b t' l' side t l old fits known h =
 taken_kept : (line : Line) (s : State) (step : Step) (t : ℕ) (l : Letter) → (s.mail t ≡ Taken l → IsAtWork (s.boxes l.to.0) l.to.0 t l) → Fits line s step → Known line s step → (next line s step).mail t ≡ Taken l → IsAtWork ((next line s step).boxes l.to.0) l.to.0 t l
 taken_kept line s (post t' l') t l old fits known h = grind (arith, nat_tests)
 taken_kept line s (hear_yes t' l') t l old fits known h = grind (arith, nat_tests)
-taken_kept line s (hear_no t' l' u) t l old fits known h = grind (arith, nat_tests)
+taken_kept line s (hear_no t' l' u job) t l old fits known h = grind (arith, nat_tests)
 taken_kept line s (go t') t l old fits known h = grind (arith, nat_tests)
 taken_kept line s (quiet t') t l old fits known h = grind (arith, nat_tests)
 taken_kept line s (take b t' l') t l old fits known h = grind (arith, nat_tests)

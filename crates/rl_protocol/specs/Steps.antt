@@ -4,6 +4,7 @@ use Rattle.rl_base.specs.declared.ids.BoxId.{BoxId}
 use Rattle.rl_base.specs.declared.ids.TrainId.{TrainId}
 use Rattle.rl_base.specs.declared.ids.SegId.{SegId}
 use Rattle.rl_base.specs.declared.ids.Arm.{Arm}
+use Rattle.rl_base.specs.declared.job.Job.{Job}
 use Rattle.rl_base.specs.declared.job.Verb.{Verb}
 use Rattle.rl_base.specs.declared.job.Verb.TheVariants as verbs
 use Rattle.rl_base.specs.declared.kind.Side.{Side}
@@ -16,7 +17,7 @@ use Rattle.rl_words.specs.declared.mail.Letter.{Letter}
 use Rattle.rl_words.specs.declared.mail.MailWord.TheVariants.{Empty, Ask, Taken, Yes, No}
 use Rattle.rl_words.specs.declared.run.RunWord.TheVariants.{Clear, Go, Across}
 use Rattle.rl_words.specs.declared.sense.SenseWord.TheVariants.{Quiet, Head, Tail}
-use Rattle.rl_words.specs.Mail.{IsRefusable}
+use Rattle.rl_words.specs.Mail.{IsRefusable, about_passage}
 use Rattle.rl_tables.specs.declared.table.StepRow.{StepRow}
 use Rattle.rl_train.specs.declared.mind.TrainMind.{TrainMind}
 use Rattle.rl_model.specs.declared.moves.Move.{Move}
@@ -28,14 +29,14 @@ use Rattle.rl_box.specs.declared.mind.BoxMind.{BoxMind}
 use Rattle.rl_box.specs.declared.mind.Work.TheVariants.{Ready, Serve, Say}
 use Rattle.rl_track.specs.declared.track.TrackPhase.TheVariants.{Watch, HeadDue, LeaveDue, TailDue}
 use Rattle.rl_protocol.specs.Line.{Line}
-use Rattle.rl_protocol.specs.Jobs.{about_path, letter_at, after_yes, after_no, passes, begins, ends_step}
+use Rattle.rl_protocol.specs.Jobs.{letter_at, job_after_yes, job_after_no, passes, begins, finishes}
 use Rattle.rl_protocol.specs.State.{State, put, put_at}
 
--- t is a train and b a box by its number, l the letter that train t posted, u the train in the way, p a path
+-- t is a train and b a box by its number, l the letter of train t, u the train in the way, p a path, k a step of a route
 pub data Step : Type 0 where
   post : (t : ℕ) (l : Letter) → Step
   hear_yes : (t : ℕ) (l : Letter) → Step
-  hear_no : (t : ℕ) (l : Letter) (u : TrainId) → Step
+  hear_no : (t : ℕ) (l : Letter) (u : TrainId) (job : Job) → Step
   go : (t : ℕ) → Step
   quiet : (t : ℕ) → Step
   take : (b t : ℕ) (l : Letter) → Step
@@ -64,7 +65,7 @@ abbrev pub path_of : ℕ → Letter → Path
 path_of t l = record { train = train t; x = l.x; y = l.y }
 
 abbrev pub letter_of_path : ℕ → Path → Letter
-letter_of_path b p = about_path (record { 0 = b }) verbs.Lock p.x p.y
+letter_of_path b p = about_passage (record { 0 = b }) verbs.Lock p.x p.y
 
 abbrev pub other_side : Side → Side
 other_side Left = Right
@@ -86,10 +87,15 @@ abbrev pub posted : TrainMind → TrainMind
 posted m = record m { waits = true; left = if begins m.job then m.left - 1 else m.left }
 
 abbrev pub heard : Line → ℕ → TrainMind → TrainMind
-heard line t m = record m { waits = false; job = after_yes m.job; step = if ends_step m.job then m.step + 1 else m.step }
+heard line t m =
+    record m { waits = false; job = job_after_yes (row_of line t m) m.job; step = if finishes m.job then m.step + 1 else m.step }
 
-abbrev pub denied : Line → ℕ → TrainMind → TrainMind
-denied line t m = record m { waits = false; job = after_no m.job; refused = m.refused + 1 }
+abbrev pub denied : Job → TrainMind → TrainMind
+denied job m = record m { waits = false; job = job; refused = m.refused + 1 }
+
+-- and after the passage
+abbrev pub passed : Line → ℕ → TrainMind → TrainMind
+passed line t m = record m { waits = false; job = job_after_yes (row_of line t m) m.job }
 
 -- the arms that the letter names are arms of its box
 abbrev pub names_arms : Line → Letter → Bool
@@ -105,8 +111,9 @@ Fits line s (post t l) =
     ((s.trains t).waits ≡ false) × (at_rest line t (s.trains t) ≡ false) × (letter_of line t (s.trains t) ≡ Some l) × (s.mail t ≡ Empty)
 Fits line s (hear_yes t l) =
     ((s.trains t).waits ≡ true) × (letter_of line t (s.trains t) ≡ Some l) × (s.mail t ≡ Yes l)
-Fits line s (hear_no t l u) =
-    ((s.trains t).waits ≡ true) × (letter_of line t (s.trains t) ≡ Some l) × IsRefusable l.verb × (s.mail t ≡ No l u)
+Fits line s (hear_no t l u job) =
+    ((s.trains t).waits ≡ true) × (letter_of line t (s.trains t) ≡ Some l) × (s.mail t ≡ No l u)
+    × (job_after_no (row_of line t (s.trains t)) (s.trains t).job ≡ Some job)
 Fits line s (go t) =
     ((s.trains t).waits ≡ false) × (passes (s.trains t).job ≡ true) × (s.run t ≡ Clear (s.trains t).step)
 Fits line s (quiet t) =
@@ -153,11 +160,11 @@ saying s b t l answer = with_work s b (Say (train t) l answer)
 abbrev pub next : Line → State → Step → State
 next line s (post t l) = record s { trains = put s.trains t (posted (s.trains t)); mail = put s.mail t (Ask l) }
 next line s (hear_yes t l) = record s { trains = put s.trains t (heard line t (s.trains t)); mail = put s.mail t Empty }
-next line s (hear_no t l u) = record s { trains = put s.trains t (denied line t (s.trains t)); mail = put s.mail t Empty }
+next line s (hear_no t l u job) = record s { trains = put s.trains t (denied job (s.trains t)); mail = put s.mail t Empty }
 next line s (go t) =
     record s { trains = put s.trains t (record (s.trains t) { waits = true }); run = put s.run t (Go (s.trains t).step) }
 next line s (quiet t) =
-    record s { trains = put s.trains t (heard line t (s.trains t)); sense = put s.sense t (Quiet ((s.trains t).step + 1)) }
+    record s { trains = put s.trains t (passed line t (s.trains t)); sense = put s.sense t (Quiet ((s.trains t).step + 1)) }
 next line s (take b t l) = record s { boxes = with_work s b (Serve (train t) l); mail = put s.mail t (Taken l) }
 next line s (grant b t l) = record s { boxes = saying s b t l answers.Yes; resv = put_at s.resv b l.x.0 (Some (train t)) }
 next line s (refuse b t l u) = record s { boxes = saying s b t l (answers.No u) }
