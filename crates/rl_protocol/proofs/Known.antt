@@ -1,6 +1,6 @@
 -- What is known of a step besides what it finds, in a state that agrees: the letter in hand is that of its train.
 use Rattle.std.proofs.Common.{◌≡◌, ◌≢◌, ℕ, ◌+◌, ◌-◌, ◌<◌, ◌==◌, Bool, true, false, cond, not, ◌&&◌, ◌||◌, Option, Some, None, refl, sym, ap, ◌∙◌, subst, ◌⊎◌, inl, inr, arith}
-use Rattle.std.proofs.lemmas.Bool.{false≢true}
+use Rattle.std.proofs.lemmas.Bool.{false≢true, ne_eqb}
 use Rattle.std.proofs.lemmas.Bool.Decides.{nat_tests}
 use Rattle.rl_base.specs.declared.ids.TrainId.{TrainId}
 use Rattle.rl_base.specs.declared.job.Job.{Job}
@@ -16,6 +16,7 @@ use Rattle.rl_protocol.specs.Line.{Line}
 use Rattle.rl_protocol.specs.Jobs.{letter_at, passes}
 use Rattle.rl_protocol.specs.State.{State}
 use Rattle.rl_protocol.specs.Steps.{Step, post, hear_yes, hear_no, go, quiet, take, grant, refuse, release, lock_now, lock_ask, lock_moved, unlock, say_yes, say_no, busy, throw, settle, enter, head, leave, tail, Fits, next, letter_of, letter_of_path, train}
+use Rattle.rl_protocol.specs.Held.{is_path_of}
 use Rattle.rl_protocol.specs.Agreement.{asks, Carries, IsAtWork, AgreesOnMailboxes, AgreesOnLocks, path_in_setting}
 use Rattle.rl_protocol.proofs.Jobs.{letter_not_passing, letter_there}
 
@@ -39,16 +40,16 @@ Known line s (hear_yes t l) = passes (s.trains t).job ≡ false
 Known line s (hear_no t l u job) = passes (s.trains t).job ≡ false
 Known line s (go t) = s.mail t ≡ Empty
 Known line s (quiet t) = s.mail t ≡ Empty
-Known line s (take b t l) = Waits line s t l
-Known line s (grant b t l) = HasTaken line s b t l
-Known line s (refuse b t l u) = HasTaken line s b t l
-Known line s (release b t l) = HasTaken line s b t l
+Known line s (take b t l) = Waits line s t l × (is_path_of t (s.boxes b).waiting ≡ false)
+Known line s (grant b t l) = HasTaken line s b t l × (is_path_of t (s.boxes b).waiting ≡ false)
+Known line s (refuse b t l u) = HasTaken line s b t l × (is_path_of t (s.boxes b).waiting ≡ false)
+Known line s (release b t l) = HasTaken line s b t l × (is_path_of t (s.boxes b).waiting ≡ false)
 Known line s (lock_now b t l side) = HasTaken line s b t l
 Known line s (lock_ask b t l side) = HasTaken line s b t l
 Known line s (lock_moved b p) = HasTaken line s b p.train.0 (letter_of_path b p)
 Known line s (unlock b t l side) = HasTaken line s b t l
-Known line s (say_yes b t l) = HasTaken line s b t l
-Known line s (say_no b t l u) = HasTaken line s b t l
+Known line s (say_yes b t l) = HasTaken line s b t l × (is_path_of t (s.boxes b).waiting ≡ false)
+Known line s (say_no b t l u) = HasTaken line s b t l × (is_path_of t (s.boxes b).waiting ≡ false)
 Known line s (busy b t l p) = HasTaken line s b t l
 Known line s (throw b p) = ((s.boxes b).waiting ≡ Some p) × HasTaken line s b p.train.0 (letter_of_path b p)
 Known line s (settle b p) = ((s.boxes b).waiting ≡ Some p) × HasTaken line s b p.train.0 (letter_of_path b p)
@@ -82,22 +83,27 @@ taken line s b t l old h =
 pub taken_path : (line : Line) (s : State) (b : ℕ) (p : Path) → AgreesOnMailboxes line s → (s.boxes b).waiting ≡ Some p → HasTaken line s b p.train.0 (letter_of_path b p)
 taken_path line s b p old h = taken line s b p.train.0 (letter_of_path b p) old (old.waits b p h, refl)
 
+-- a path that is none of train t
+path_of_other : (t : ℕ) (o : Option Path) → ((p : Path) → o ≡ Some p → p.train.0 ≢ t) → is_path_of t o ≡ false
+path_of_other t None h = refl
+path_of_other t (Some p) h = ne_eqb p.train.0 t (h p refl)
+
 pub known : (line : Line) (s : State) (step : Step) → AgreesOnMailboxes line s → AgreesOnLocks line s → Fits line s step → Known line s step
 known line s (post t l) old locks fits = letter_not_passing (s.trains t).job _ l fits.2
 known line s (hear_yes t l) old locks fits = letter_not_passing (s.trains t).job _ l fits.1
 known line s (hear_no t l u job) old locks fits = letter_not_passing (s.trains t).job _ l fits.1
 known line s (go t) old locks fits = old.empty t (grind (arith, nat_tests))
 known line s (quiet t) old locks fits = old.empty t (grind (arith, nat_tests))
-known line s (take b t l) old locks fits = asked line s t l old fits.1
-known line s (grant b t l) old locks fits = taken line s b t l old (old.serves b (train t) l fits.0)
-known line s (refuse b t l u) old locks fits = taken line s b t l old (old.serves b (train t) l fits.0)
-known line s (release b t l) old locks fits = taken line s b t l old (old.serves b (train t) l fits.0)
+known line s (take b t l) old locks fits = (asked line s t l old fits.1, path_of_other t (s.boxes b).waiting (λ p h e. cc (old.waits b p h, ap s.mail e, fits.1)))
+known line s (grant b t l) old locks fits = (taken line s b t l old (old.serves b (train t) l fits.0), path_of_other t (s.boxes b).waiting (λ p h. old.serves_one b (train t) l p fits.0 h))
+known line s (refuse b t l u) old locks fits = (taken line s b t l old (old.serves b (train t) l fits.0), path_of_other t (s.boxes b).waiting (λ p h. old.serves_one b (train t) l p fits.0 h))
+known line s (release b t l) old locks fits = (taken line s b t l old (old.serves b (train t) l fits.0), path_of_other t (s.boxes b).waiting (λ p h. old.serves_one b (train t) l p fits.0 h))
 known line s (lock_now b t l side) old locks fits = taken line s b t l old (old.serves b (train t) l (ap (λ m. m.work) fits.0))
 known line s (lock_ask b t l side) old locks fits = taken line s b t l old (old.serves b (train t) l (ap (λ m. m.work) fits.0))
 known line s (lock_moved b p) old locks fits = taken_path line s b p old (ap (λ m. m.waiting) fits.0)
 known line s (unlock b t l side) old locks fits = taken line s b t l old (old.serves b (train t) l (ap (λ m. m.work) fits.0))
-known line s (say_yes b t l) old locks fits = taken line s b t l old (old.says b (train t) l answers.Yes fits.0)
-known line s (say_no b t l u) old locks fits = taken line s b t l old (old.says b (train t) l (answers.No u) fits.0)
+known line s (say_yes b t l) old locks fits = (taken line s b t l old (old.says b (train t) l answers.Yes fits.0), path_of_other t (s.boxes b).waiting (λ p h. old.says_one b (train t) l answers.Yes p fits.0 h))
+known line s (say_no b t l u) old locks fits = (taken line s b t l old (old.says b (train t) l (answers.No u) fits.0), path_of_other t (s.boxes b).waiting (λ p h. old.says_one b (train t) l (answers.No u) p fits.0 h))
 known line s (busy b t l p) old locks fits = taken line s b t l old (old.serves b (train t) l (ap (λ m. m.work) fits.0))
 known line s (throw b p) old locks fits =
     let waits : (s.boxes b).waiting ≡ Some p = locks.waiting b ∙ ap path_in_setting fits in

@@ -5,3 +5,6 @@ pub mod Answers
 pub mod Points
 pub mod Passage
 pub mod Attempts
+pub mod JobHolds
+pub mod Reservations
+pub mod LockHolds
