@@ -7,10 +7,12 @@ use Rattle.rl_base.specs.declared.job.Job.TheVariants as jobs
 use Rattle.rl_words.specs.declared.mail.Letter.{Letter}
 use Rattle.rl_tables.specs.declared.table.StepRow.{StepRow}
 use Rattle.rl_train.specs.declared.mind.TrainMind.{TrainMind}
+use Rattle.rl_train.specs.Mind.{start_train}
 use Rattle.rl_protocol.specs.Line.{Line}
-use Rattle.rl_protocol.specs.Jobs.{letter_at, passes, has_passed, job_after_yes, job_after_no, finishes, begins, is_open}
+use Rattle.rl_protocol.specs.State.{start}
+use Rattle.rl_protocol.specs.Jobs.{letter_at, passes, has_passed, job_after_yes, job_after_no, finishes, begins, is_open, holds_at, locks_at}
 use Rattle.rl_protocol.specs.Steps.{row_of, heard, denied, passed}
-use Rattle.rl_protocol.specs.Agreement.{place_of}
+use Rattle.rl_protocol.specs.Agreement.{place_of, open_attempts, IsStanding}
 
 -- a job with a letter isn't Pass
 pub letter_not_passing : (job : Job) (row : StepRow) (l : Letter) → letter_at job row ≡ Some l → passes job ≡ false
@@ -180,3 +182,24 @@ begins_passes jobs.FreeNear h = cc
 begins_passes jobs.FreeFar h = cc
 begins_passes jobs.DropFar h = cc
 begins_passes jobs.DropNear h = cc
+
+-- a train starts at Near: it holds its segment and has no lock, and stands on it without an open attempt
+pub starts_holding : (row : StepRow) (here ahead : Bool) (b x : ℕ) → holds_at jobs.Near row here ahead b x ≡ here
+unfolding holds_at
+starts_holding row here ahead b x = refl
+
+pub starts_unlocked : (row : StepRow) (b x y : ℕ) → locks_at jobs.Near row b x y ≡ false
+unfolding locks_at
+starts_unlocked row b x y = refl
+
+pub starts_standing : (line : Line) (tries t : ℕ) → IsStanding (start line tries) t (place_of (start_train tries))
+unfolding has_passed
+starts_standing line tries t = (refl, refl, refl)
+
+pub starts_closed : (tries : ℕ) → let m = start_train tries in m.left + m.step + m.refused + open_attempts m ≡ tries
+unfolding is_open
+starts_closed tries = omega arith
+
+pub starts_beginning : not (begins jobs.Near) ≡ false
+unfolding begins
+starts_beginning = refl

@@ -8,3 +8,5 @@ pub mod Attempts
 pub mod JobHolds
 pub mod Reservations
 pub mod LockHolds
+pub mod Letters
+pub mod Agreed

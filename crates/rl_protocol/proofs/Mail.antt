@@ -79,3 +79,16 @@ module _ (line : Line) (s : State) (step : Step) (old : AgreesOnMailboxes line s
 
   says_one_kept : (b : ℕ) (t : TrainId) (l : Letter) (a : Answer) (p : Path) → ((next line s step).boxes b).work ≡ Say t l a → ((next line s step).boxes b).waiting ≡ Some p → p.train.0 ≢ t.0
   says_one_kept b t l a p h k = λ e. grind (arith, nat_tests, old.waits b p, old.serves b t l, old.serves_one b t l p, old.says_one b t l a p)
+
+  pub mailboxes_kept : AgreesOnMailboxes line (next line s step)
+  mailboxes_kept =
+      record {
+        empty = λ t h. empty_kept line s step t (old.empty t) fits h;
+        letter = λ t l h k. letter_kept line s step t l (old.letter t l) fits known h k;
+        taken = λ t l h. taken_kept line s step t l (old.taken t l) fits known h;
+        serves = serves_kept;
+        says = says_kept;
+        waits = waits_kept;
+        serves_one = serves_one_kept;
+        says_one = says_one_kept;
+      }

@@ -13,3 +13,7 @@ stands_kept line s step t old fits known h = grind (arith, nat_tests, place_hear
 
 passing_kept : (line : Line) (s : State) (step : Step) (t : ℕ) → AgreesOnPassage s t → Fits line s step → Known line s step → is_passing ((next line s step).trains t) ≡ true → IsPassing (next line s step) t ((next line s step).trains t).step
 passing_kept line s step t old fits known h = grind (arith, nat_tests, place_passes)
+
+pub passage_kept : (line : Line) (s : State) (step : Step) (t : ℕ) → AgreesOnPassage s t → Fits line s step → Known line s step → AgreesOnPassage (next line s step) t
+passage_kept line s step t old fits known =
+    record { stands = stands_kept line s step t old fits known; passing = passing_kept line s step t old fits known }

@@ -1,0 +1,49 @@
+-- What a letter of the job table names: arms that are there, and for a lock a passage that its box can connect.
+use Rattle.std.proofs.Common.{◌≡◌, ◌≢◌, ℕ, ◌+◌, ◌-◌, ◌<◌, ◌==◌, Bool, true, false, cond, not, ◌&&◌, ◌||◌, Option, Some, None, refl, sym, ap, ◌∙◌, subst, ◌⊎◌, inl, inr, arith}
+use Rattle.std.proofs.lemmas.Bool.Decides.{nat_tests}
+use Rattle.rl_base.specs.declared.ids.BoxId.{BoxId}
+use Rattle.rl_base.specs.declared.ids.Arm.{Arm}
+use Rattle.rl_base.specs.declared.job.Job.{Job}
+use Rattle.rl_base.specs.declared.job.Job.TheVariants as jobs
+use Rattle.rl_words.specs.declared.mail.Letter.{Letter}
+use Rattle.rl_tables.specs.declared.table.StepRow.{StepRow}
+use Rattle.rl_tables.specs.Kept.{can_join}
+use Rattle.rl_protocol.specs.Line.{Line, at, IsStepOf, IsConsistent}
+use Rattle.rl_protocol.specs.Jobs.{letter_at}
+
+-- the places of a row are ends of its segments, and so arms
+here_at : (line : Line) (t k : ℕ) → IsStepOf line t k (line.row t k) → let row = line.row t k in (line.ends t k row.b.0 row.x.0 ≡ true) × (line.ends t k row.a.0 row.a_arm.0 ≡ true)
+here_at line t k is = let row = line.row t k in (grind (arith, nat_tests, is.here row.b.0 row.x.0), grind (arith, nat_tests, is.here row.a.0 row.a_arm.0))
+
+ahead_at : (line : Line) (t k : ℕ) → IsStepOf line t k (line.row t k) → let row = line.row t k in (line.ends t (k + 1) row.b.0 row.y.0 ≡ true) × (line.ends t (k + 1) row.c.0 row.c_arm.0 ≡ true)
+ahead_at line t k is = let row = line.row t k in (grind (arith, nat_tests, is.ahead row.b.0 row.y.0), grind (arith, nat_tests, is.ahead row.c.0 row.c_arm.0))
+
+pub record HasArms (line : Line) (row : StepRow) : Type 0 where
+  pub x : line.has_arm row.b.0 row.x.0 ≡ true
+  pub y : line.has_arm row.b.0 row.y.0 ≡ true
+  pub far : line.has_arm row.c.0 row.c_arm.0 ≡ true
+  pub back : line.has_arm row.a.0 row.a_arm.0 ≡ true
+
+pub row_arms : (line : Line) (t k : ℕ) → IsConsistent line → k < line.steps t → HasArms line (line.row t k)
+row_arms line t k laws h =
+    let is = laws.rows t k h in
+    let here = here_at line t k is in
+    let ahead = ahead_at line t k is in
+    record {
+      x = laws.arms t k _ _ here.0;
+      y = laws.arms t (k + 1) _ _ ahead.0;
+      far = laws.arms t (k + 1) _ _ ahead.1;
+      back = laws.arms t k _ _ here.1;
+    }
+
+pub letter_arm : (line : Line) (row : StepRow) (job : Job) (l : Letter) → HasArms line row → letter_at job row ≡ Some l → line.has_arm l.to.0 l.x.0 ≡ true
+unfolding letter_at
+letter_arm line row jobs.Near l arms is = grind arith
+letter_arm line row jobs.Far l arms is = grind arith
+letter_arm line row jobs.Lock l arms is = grind arith
+letter_arm line row jobs.Pass l arms is = grind arith
+letter_arm line row jobs.Unlock l arms is = grind arith
+letter_arm line row jobs.FreeNear l arms is = grind arith
+letter_arm line row jobs.FreeFar l arms is = grind arith
+letter_arm line row jobs.DropFar l arms is = grind arith
+letter_arm line row jobs.DropNear l arms is = grind arith
