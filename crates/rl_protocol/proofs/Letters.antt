@@ -5,11 +5,15 @@ use Rattle.rl_base.specs.declared.ids.BoxId.{BoxId}
 use Rattle.rl_base.specs.declared.ids.Arm.{Arm}
 use Rattle.rl_base.specs.declared.job.Job.{Job}
 use Rattle.rl_base.specs.declared.job.Job.TheVariants as jobs
+use Rattle.rl_base.specs.declared.job.Verb.TheVariants as verbs
 use Rattle.rl_words.specs.declared.mail.Letter.{Letter}
 use Rattle.rl_tables.specs.declared.table.StepRow.{StepRow}
 use Rattle.rl_tables.specs.Kept.{can_join}
 use Rattle.rl_protocol.specs.Line.{Line, at, IsStepOf, IsConsistent}
-use Rattle.rl_protocol.specs.Jobs.{letter_at}
+use Rattle.rl_train.specs.declared.mind.TrainMind.{TrainMind}
+use Rattle.rl_protocol.specs.Jobs.{letter_at, has_passed}
+use Rattle.rl_protocol.specs.Steps.{row_of, letter_of}
+use Rattle.rl_protocol.specs.Agreement.{place_of}
 
 -- the places of a row are ends of its segments, and so arms
 here_at : (line : Line) (t k : ℕ) → IsStepOf line t k (line.row t k) → let row = line.row t k in (line.ends t k row.b.0 row.x.0 ≡ true) × (line.ends t k row.a.0 row.a_arm.0 ≡ true)
@@ -47,3 +51,19 @@ letter_arm line row jobs.FreeNear l arms is = grind arith
 letter_arm line row jobs.FreeFar l arms is = grind arith
 letter_arm line row jobs.DropFar l arms is = grind arith
 letter_arm line row jobs.DropNear l arms is = grind arith
+
+-- what a train releases isn't where it stands
+released_off : (line : Line) (t k : ℕ) (job : Job) (l : Letter) → IsStepOf line t k (line.row t k) → letter_at job (line.row t k) ≡ Some l → l.verb ≡ verbs.Release → line.ends t (cond (has_passed job) (k + 1) k) l.to.0 l.x.0 ≡ false
+unfolding letter_at has_passed
+released_off line t k jobs.Near l is h verb = grind arith
+released_off line t k jobs.Far l is h verb = grind arith
+released_off line t k jobs.Lock l is h verb = grind arith
+released_off line t k jobs.Pass l is h verb = grind arith
+released_off line t k jobs.Unlock l is h verb = grind arith
+released_off line t k jobs.FreeNear l is h verb = let row = line.row t k in let there = (here_at line t k is).0 in let none = is.apart row.b.0 row.x.0 there in grind arith
+released_off line t k jobs.FreeFar l is h verb = let row = line.row t k in let there = (here_at line t k is).1 in let none = is.apart row.a.0 row.a_arm.0 there in grind arith
+released_off line t k jobs.DropFar l is h verb = let row = line.row t k in let there = (ahead_at line t k is).1 in let none = is.apart row.c.0 row.c_arm.0 in grind arith
+released_off line t k jobs.DropNear l is h verb = let row = line.row t k in let there = (ahead_at line t k is).0 in let none = is.apart row.b.0 row.y.0 in grind arith
+
+pub letter_off : (line : Line) (t : ℕ) (m : TrainMind) (l : Letter) → IsConsistent line → m.step < line.steps t → letter_of line t m ≡ Some l → l.verb ≡ verbs.Release → line.ends t (place_of m) l.to.0 l.x.0 ≡ false
+letter_off line t m l laws h is verb = released_off line t m.step m.job l (laws.rows t m.step h) is verb

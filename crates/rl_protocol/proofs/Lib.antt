@@ -10,3 +10,5 @@ pub mod Reservations
 pub mod LockHolds
 pub mod Letters
 pub mod Agreed
+pub mod Places
+pub mod Reserving

@@ -5,3 +5,4 @@ pub mod Steps
 pub mod Runs
 pub mod Held
 pub mod Agreement
+pub mod Worlds
