@@ -11,7 +11,7 @@ use Rattle.rl_tables.specs.declared.table.StepRow.{StepRow}
 use Rattle.rl_tables.specs.Kept.{can_join}
 use Rattle.rl_protocol.specs.Line.{Line, at, IsStepOf, IsConsistent}
 use Rattle.rl_train.specs.declared.mind.TrainMind.{TrainMind}
-use Rattle.rl_protocol.specs.Jobs.{letter_at, has_passed}
+use Rattle.rl_protocol.specs.Jobs.{letter_at, has_passed, holds_at, locks_at}
 use Rattle.rl_protocol.specs.Steps.{row_of, letter_of}
 use Rattle.rl_protocol.specs.Agreement.{place_of}
 
@@ -67,3 +67,42 @@ released_off line t k jobs.DropNear l is h verb = let row = line.row t k in let 
 
 pub letter_off : (line : Line) (t : ℕ) (m : TrainMind) (l : Letter) → IsConsistent line → m.step < line.steps t → letter_of line t m ≡ Some l → l.verb ≡ verbs.Release → line.ends t (place_of m) l.to.0 l.x.0 ≡ false
 letter_off line t m l laws h is verb = released_off line t m.step m.job l (laws.rows t m.step h) is verb
+
+-- who asks for a lock asks it at the box of its step, holds both segments, and has no lock yet
+pub record AsksLock (row : StepRow) (job : Job) (l : Letter) : Type 0 where
+  pub to : l.to ≡ row.b
+  pub x : l.x ≡ row.x
+  pub y : l.y ≡ row.y
+  pub holds : (here ahead : Bool) (b x : ℕ) → holds_at job row here ahead b x ≡ (here || ahead)
+  pub unlocked : (b x y : ℕ) → locks_at job row b x y ≡ false
+
+pub asks_lock : (row : StepRow) (job : Job) (l : Letter) → letter_at job row ≡ Some l → l.verb ≡ verbs.Lock → AsksLock row job l
+unfolding letter_at holds_at locks_at
+asks_lock row jobs.Near l is verb = absurd (grind arith)
+asks_lock row jobs.Far l is verb = absurd (grind arith)
+asks_lock row jobs.Lock l is verb = record { to = grind arith; x = grind arith; y = grind arith; holds = λ here ahead b x. refl; unlocked = λ b x y. refl }
+asks_lock row jobs.Pass l is verb = absurd (grind arith)
+asks_lock row jobs.Unlock l is verb = absurd (grind arith)
+asks_lock row jobs.FreeNear l is verb = absurd (grind arith)
+asks_lock row jobs.FreeFar l is verb = absurd (grind arith)
+asks_lock row jobs.DropFar l is verb = absurd (grind arith)
+asks_lock row jobs.DropNear l is verb = absurd (grind arith)
+
+-- who asks to unlock names the lock that it has
+pub record AsksUnlock (row : StepRow) (job : Job) (l : Letter) : Type 0 where
+  pub to : l.to ≡ row.b
+  pub x : l.x ≡ row.x
+  pub y : l.y ≡ row.y
+  pub locked : (b x y : ℕ) → locks_at job row b x y ≡ (at row.b row.x b x && row.y.0 == y)
+
+pub asks_unlock : (row : StepRow) (job : Job) (l : Letter) → letter_at job row ≡ Some l → l.verb ≡ verbs.Unlock → AsksUnlock row job l
+unfolding letter_at locks_at
+asks_unlock row jobs.Near l is verb = absurd (grind arith)
+asks_unlock row jobs.Far l is verb = absurd (grind arith)
+asks_unlock row jobs.Lock l is verb = absurd (grind arith)
+asks_unlock row jobs.Pass l is verb = absurd (grind arith)
+asks_unlock row jobs.Unlock l is verb = record { to = grind arith; x = grind arith; y = grind arith; locked = λ b x y. refl }
+asks_unlock row jobs.FreeNear l is verb = absurd (grind arith)
+asks_unlock row jobs.FreeFar l is verb = absurd (grind arith)
+asks_unlock row jobs.DropFar l is verb = absurd (grind arith)
+asks_unlock row jobs.DropNear l is verb = absurd (grind arith)

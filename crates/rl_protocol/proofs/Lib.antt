@@ -12,3 +12,5 @@ pub mod Letters
 pub mod Agreed
 pub mod Places
 pub mod Reserving
+pub mod Sides
+pub mod Locking

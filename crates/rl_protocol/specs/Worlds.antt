@@ -57,16 +57,16 @@ steps_made (Go k) = k
 steps_made (Across k) = k
 
 -- the path of a lock, between the segments at its arms
-abbrev pub is_passage : NetworkPlan → ℕ → Path → (t from to : ℕ) → Bool
-is_passage net b p t from to =
-    p.train.0 == t && is_number (segment_at net b p.x.0) from && is_number (segment_at net b p.y.0) to
+abbrev pub is_passage : (segments : ℕ → Option ℕ) → Path → (t from to : ℕ) → Bool
+is_passage segments p t from to = p.train.0 == t && is_number (segments p.x.0) from && is_number (segments p.y.0) to
 
-abbrev pub locks : NetworkPlan → ℕ → LockWord → (t from to : ℕ) → Bool
-locks net b (Free side) t from to = false
-locks net b (Asked p) t from to = is_passage net b p t from to
-locks net b (Moving p) t from to = is_passage net b p t from to
-locks net b (Moved p) t from to = is_passage net b p t from to
-locks net b (Locked p) t from to = is_passage net b p t from to
+-- the lock of a box with these segments at its arms
+abbrev pub locks : (segments : ℕ → Option ℕ) → LockWord → (t from to : ℕ) → Bool
+locks segments (Free side) t from to = false
+locks segments (Asked p) t from to = is_passage segments p t from to
+locks segments (Moving p) t from to = is_passage segments p t from to
+locks segments (Moved p) t from to = is_passage segments p t from to
+locks segments (Locked p) t from to = is_passage segments p t from to
 
 -- a point stands at the side, and any other box at left
 abbrev pub standing : Kind → Side → Points
@@ -100,7 +100,7 @@ world_at net s =
       occupies = λ t segment. stands_on net t (s.run t) segment;
       across = λ t b from to. is_across net t (s.run t) b from to;
       holds = λ t segment b. option_map_or (λ x. is_held_by t (s.resv b x)) (arm_of net segment b) false;
-      locked = λ b t from to. locks net b (s.lock b) t from to;
+      locked = λ b t from to. locks (segment_at net b) (s.lock b) t from to;
       points = λ b. points_in (kind_of net b) (s.lock b);
       made = λ t. steps_made (s.run t);
     }
