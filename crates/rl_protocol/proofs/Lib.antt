@@ -14,3 +14,4 @@ pub mod Places
 pub mod Reserving
 pub mod Sides
 pub mod Locking
+pub mod Passing

@@ -66,7 +66,7 @@ pub record IsPathAt (net : NetworkPlan) (line : Line) (b : ℕ) (p : Path) : Typ
   pub joined : can_join (kind_of net b) p.x.0 p.y.0 ≡ true
 
 -- what a box connects of two segments is what it connects of their arms
-connects_at : (net : NetworkPlan) (b f g x y : ℕ) (side : Side) → arm_of net f b ≡ Some x → arm_of net g b ≡ Some y → connects net b f g side ≡ arms_join (kind_of net b) x y side
+pub connects_at : (net : NetworkPlan) (b f g x y : ℕ) (side : Side) → arm_of net f b ≡ Some x → arm_of net g b ≡ Some y → connects net b f g side ≡ arms_join (kind_of net b) x y side
 connects_at net b f g x y side at_x at_y = ap (λ o. joined (kind_of net b) side o (arm_of net g b)) at_x ∙ ap (λ o. joined (kind_of net b) side (Some x) o) at_y
 
 -- points that stand at a side connect what the box connects there

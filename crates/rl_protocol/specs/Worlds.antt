@@ -38,17 +38,18 @@ pub record IsLineOf (net : NetworkPlan) (line : Line) : Type 0 where
   pub rows : (t k : ℕ) → k < line.steps t → let row = line.row t k in IsStep net t k row.s.0 row.b.0 row.s2.0
   pub ends : (t k b x : ℕ) → line.ends t k b x ≡ same_number (segment_at net b x) (route_segment net t k)
 
--- a train occupies the segment of its route that its run word names, and the next one while it is across the box between
-abbrev pub stands_on : NetworkPlan → ℕ → RunWord → ℕ → Bool
-stands_on net t (Clear k) s = is_number (route_segment net t k) s
-stands_on net t (Go k) s = is_number (route_segment net t k) s
-stands_on net t (Across k) s = is_number (route_segment net t k) s || is_number (route_segment net t (k + 1)) s
+-- a train whose route has these segments occupies the one that its run word names, and the next one too while it is
+-- across the box between them
+abbrev pub stands_on : (segments : ℕ → Option ℕ) → RunWord → ℕ → Bool
+stands_on segments (Clear k) s = is_number (segments k) s
+stands_on segments (Go k) s = is_number (segments k) s
+stands_on segments (Across k) s = is_number (segments k) s || is_number (segments (k + 1)) s
 
-abbrev pub is_across : NetworkPlan → ℕ → RunWord → (b from to : ℕ) → Bool
-is_across net t (Clear k) b from to = false
-is_across net t (Go k) b from to = false
-is_across net t (Across k) b from to =
-    is_number (route_box net t k) b && is_number (route_segment net t k) from && is_number (route_segment net t (k + 1)) to
+abbrev pub is_across : (segments boxes : ℕ → Option ℕ) → RunWord → (b from to : ℕ) → Bool
+is_across segments boxes (Clear k) b from to = false
+is_across segments boxes (Go k) b from to = false
+is_across segments boxes (Across k) b from to =
+    is_number (boxes k) b && is_number (segments k) from && is_number (segments (k + 1)) to
 
 -- and has made as many steps
 abbrev pub steps_made : RunWord → ℕ
@@ -97,8 +98,8 @@ points_in kind (Locked p) = standing kind (side_of_path kind p)
 abbrev pub world_at : NetworkPlan → State → World
 world_at net s =
     record {
-      occupies = λ t segment. stands_on net t (s.run t) segment;
-      across = λ t b from to. is_across net t (s.run t) b from to;
+      occupies = λ t segment. stands_on (route_segment net t) (s.run t) segment;
+      across = λ t b from to. is_across (route_segment net t) (route_box net t) (s.run t) b from to;
       holds = λ t segment b. option_map_or (λ x. is_held_by t (s.resv b x)) (arm_of net segment b) false;
       locked = λ b t from to. locks (segment_at net b) (s.lock b) t from to;
       points = λ b. points_in (kind_of net b) (s.lock b);
