@@ -74,6 +74,9 @@ waiting_for line s t l old full same =
 pub asked : (line : Line) (s : State) (t : ℕ) (l : Letter) → AgreesOnMailboxes line s → s.mail t ≡ Ask l → Waits line s t l
 asked line s t l old h = waiting_for line s t l old (λ e. cc) (λ k c. subst (λ m. Carries m k) h c)
 
+pub answered : (line : Line) (s : State) (t : ℕ) (l : Letter) → AgreesOnMailboxes line s → s.mail t ≡ Yes l → Waits line s t l
+answered line s t l old h = waiting_for line s t l old (λ e. cc) (λ k c. subst (λ m. Carries m k) h c)
+
 pub taken : (line : Line) (s : State) (b t : ℕ) (l : Letter) → AgreesOnMailboxes line s → (s.mail t ≡ Taken l) × (l.to.0 ≡ b) → HasTaken line s b t l
 taken line s b t l old h =
     let it = waiting_for line s t l old (λ e. cc) (λ k c. subst (λ m. Carries m k) h.0 c) in

@@ -1,5 +1,6 @@
 -- What a letter of the job table names: arms that are there, and for a lock a passage that its box can connect.
 use Rattle.std.proofs.Common.{◌≡◌, ◌≢◌, ℕ, ◌+◌, ◌-◌, ◌<◌, ◌==◌, Bool, true, false, cond, not, ◌&&◌, ◌||◌, Option, Some, None, refl, sym, ap, ◌∙◌, subst, ◌⊎◌, inl, inr, arith}
+use Rattle.std.proofs.lemmas.Bool.{false≢true}
 use Rattle.std.proofs.lemmas.Bool.Decides.{nat_tests}
 use Rattle.rl_base.specs.declared.ids.BoxId.{BoxId}
 use Rattle.rl_base.specs.declared.ids.Arm.{Arm}
@@ -11,15 +12,15 @@ use Rattle.rl_tables.specs.declared.table.StepRow.{StepRow}
 use Rattle.rl_tables.specs.Kept.{can_join}
 use Rattle.rl_protocol.specs.Line.{Line, at, IsStepOf, IsConsistent}
 use Rattle.rl_train.specs.declared.mind.TrainMind.{TrainMind}
-use Rattle.rl_protocol.specs.Jobs.{letter_at, has_passed, holds_at, locks_at}
+use Rattle.rl_protocol.specs.Jobs.{letter_at, has_passed, holds_at, locks_at, begins, passes}
 use Rattle.rl_protocol.specs.Steps.{row_of, letter_of}
 use Rattle.rl_protocol.specs.Agreement.{place_of}
 
 -- the places of a row are ends of its segments, and so arms
-here_at : (line : Line) (t k : ℕ) → IsStepOf line t k (line.row t k) → let row = line.row t k in (line.ends t k row.b.0 row.x.0 ≡ true) × (line.ends t k row.a.0 row.a_arm.0 ≡ true)
+pub here_at : (line : Line) (t k : ℕ) → IsStepOf line t k (line.row t k) → let row = line.row t k in (line.ends t k row.b.0 row.x.0 ≡ true) × (line.ends t k row.a.0 row.a_arm.0 ≡ true)
 here_at line t k is = let row = line.row t k in (grind (arith, nat_tests, is.here row.b.0 row.x.0), grind (arith, nat_tests, is.here row.a.0 row.a_arm.0))
 
-ahead_at : (line : Line) (t k : ℕ) → IsStepOf line t k (line.row t k) → let row = line.row t k in (line.ends t (k + 1) row.b.0 row.y.0 ≡ true) × (line.ends t (k + 1) row.c.0 row.c_arm.0 ≡ true)
+pub ahead_at : (line : Line) (t k : ℕ) → IsStepOf line t k (line.row t k) → let row = line.row t k in (line.ends t (k + 1) row.b.0 row.y.0 ≡ true) × (line.ends t (k + 1) row.c.0 row.c_arm.0 ≡ true)
 ahead_at line t k is = let row = line.row t k in (grind (arith, nat_tests, is.ahead row.b.0 row.y.0), grind (arith, nat_tests, is.ahead row.c.0 row.c_arm.0))
 
 pub record HasArms (line : Line) (row : StepRow) : Type 0 where
@@ -106,3 +107,41 @@ asks_unlock row jobs.FreeNear l is verb = absurd (grind arith)
 asks_unlock row jobs.FreeFar l is verb = absurd (grind arith)
 asks_unlock row jobs.DropFar l is verb = absurd (grind arith)
 asks_unlock row jobs.DropNear l is verb = absurd (grind arith)
+
+-- only at Pass and at Unlock has a train a lock by its job, and that is the one of its step
+pub locks_only : (row : StepRow) (job : Job) (b x y : ℕ) → locks_at job row b x y ≡ true → (begins job ≡ false) × (row.b.0 ≡ b) × (row.x.0 ≡ x) × (row.y.0 ≡ y)
+unfolding locks_at begins
+locks_only row jobs.Near b x y h = absurd (false≢true h)
+locks_only row jobs.Far b x y h = absurd (false≢true h)
+locks_only row jobs.Lock b x y h = absurd (false≢true h)
+locks_only row jobs.Pass b x y h = (refl, grind (arith, nat_tests), grind (arith, nat_tests), grind (arith, nat_tests))
+locks_only row jobs.Unlock b x y h = (refl, grind (arith, nat_tests), grind (arith, nat_tests), grind (arith, nat_tests))
+locks_only row jobs.FreeNear b x y h = absurd (false≢true h)
+locks_only row jobs.FreeFar b x y h = absurd (false≢true h)
+locks_only row jobs.DropFar b x y h = absurd (false≢true h)
+locks_only row jobs.DropNear b x y h = absurd (false≢true h)
+
+-- a train that passes holds both segments, and has the lock of its step
+pub passing_holds : (row : StepRow) (job : Job) (here ahead : Bool) (b x : ℕ) → passes job ≡ true → holds_at job row here ahead b x ≡ (here || ahead)
+unfolding passes holds_at
+passing_holds row jobs.Near here ahead b x h = cc
+passing_holds row jobs.Far here ahead b x h = cc
+passing_holds row jobs.Lock here ahead b x h = cc
+passing_holds row jobs.Pass here ahead b x h = refl
+passing_holds row jobs.Unlock here ahead b x h = cc
+passing_holds row jobs.FreeNear here ahead b x h = cc
+passing_holds row jobs.FreeFar here ahead b x h = cc
+passing_holds row jobs.DropFar here ahead b x h = cc
+passing_holds row jobs.DropNear here ahead b x h = cc
+
+pub passing_locks : (row : StepRow) (job : Job) (b x y : ℕ) → passes job ≡ true → locks_at job row b x y ≡ (at row.b row.x b x && row.y.0 == y)
+unfolding passes locks_at
+passing_locks row jobs.Near b x y h = cc
+passing_locks row jobs.Far b x y h = cc
+passing_locks row jobs.Lock b x y h = cc
+passing_locks row jobs.Pass b x y h = refl
+passing_locks row jobs.Unlock b x y h = cc
+passing_locks row jobs.FreeNear b x y h = cc
+passing_locks row jobs.FreeFar b x y h = cc
+passing_locks row jobs.DropFar b x y h = cc
+passing_locks row jobs.DropNear b x y h = cc

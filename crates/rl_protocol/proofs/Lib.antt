@@ -15,3 +15,4 @@ pub mod Reserving
 pub mod Sides
 pub mod Locking
 pub mod Passing
+pub mod Paths
