@@ -16,3 +16,4 @@ pub mod Sides
 pub mod Locking
 pub mod Passing
 pub mod Paths
+pub mod Moved

@@ -59,6 +59,13 @@ relocked w locked locked2 pts pts2 l p =
     ap (λ k. record w { locked = k; points = pts }) (fun_ext (λ c. fun_ext (λ u. fun_ext (λ f. fun_ext (λ g. l c u f g)))))
     ∙ ap (λ k. record w { locked = locked2; points = k }) (fun_ext p)
 
+-- points that have moved stay where the lock is set
+pub moved_stays : (net : NetworkPlan) (s : State) (b : ℕ) (p : Path) → s.lock b ≡ Moved p → world_at net (record s { lock = put s.lock b (Locked p) }) ≡ world_at net s
+moved_stays net s b p is =
+    relocked (world_at net s) _ _ _ _
+    (same_lock (segment_at net) s.lock b (Locked p) (λ u f g. sym (ap (λ v. locks (segment_at net b) v u f g) is)))
+    (same_points (kind_of net) s.lock b (Locked p) (sym (ap (points_in (kind_of net b)) is)))
+
 -- the two segments of a path, at arms of a box that can connect them
 pub record IsPathAt (net : NetworkPlan) (line : Line) (b : ℕ) (p : Path) : Type 0 where
   pub x : segment_at net b p.x.0 ≡ Some (seg_at line b p.x).0

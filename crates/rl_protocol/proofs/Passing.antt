@@ -53,7 +53,7 @@ rerun w o o2 a a2 m m2 eo ea em =
     ∙ (ap (λ k. record w { occupies = o2; across = k; made = m }) (fun_ext (λ u. fun_ext (λ c. fun_ext (λ f. fun_ext (λ g. ea u c f g)))))
     ∙ ap (λ k. record w { occupies = o2; across = a2; made = k }) (fun_ext em))
 
-number_is : (o : Option ℕ) (n : ℕ) → o ≡ Some n → is_number o n ≡ true
+pub number_is : (o : Option ℕ) (n : ℕ) → o ≡ Some n → is_number o n ≡ true
 number_is o n h = ap (λ p. is_number p n) h ∙ eq-eqb n n refl
 
 module _ (net : NetworkPlan) (line : Line) (s : State) (t k : ℕ) (step : let row = line.row t k in IsStep net t k row.s.0 row.b.0 row.s2.0) where
@@ -81,6 +81,20 @@ module _ (net : NetworkPlan) (line : Line) (s : State) (t k : ℕ) (step : let r
         (leave_across (route_segment net) (route_box net) s.run t k _ _ _ step.from step.through step.to goes)
         (leave_made (route_segment net) (route_box net) s.run t k _ _ _ step.from step.through step.to goes);
       }
+
+-- a train that goes stands where it stood
+go_stands : (segments boxes : ℕ → ℕ → Option ℕ) (run : ℕ → RunWord) (t k : ℕ) → run t ≡ Clear k → (u r : ℕ) → stands_on (segments u) (put run t (Go k) u) r ≡ stands_on (segments u) (run u) r
+go_stands segments boxes run t k is u r = grind (arith, nat_tests)
+
+go_across : (segments boxes : ℕ → ℕ → Option ℕ) (run : ℕ → RunWord) (t k : ℕ) → run t ≡ Clear k → (u c f g : ℕ) → is_across (segments u) (boxes u) (put run t (Go k) u) c f g ≡ is_across (segments u) (boxes u) (run u) c f g
+go_across segments boxes run t k is u c f g = grind (arith, nat_tests)
+
+go_made : (run : ℕ → RunWord) (t k : ℕ) → run t ≡ Clear k → (u : ℕ) → steps_made (put run t (Go k) u) ≡ steps_made (run u)
+go_made run t k is u = grind (arith, nat_tests)
+
+pub go_stays : (net : NetworkPlan) (s : State) (t k : ℕ) → s.run t ≡ Clear k → world_at net (record s { run = put s.run t (Go k) }) ≡ world_at net s
+go_stays net s t k is =
+    rerun (world_at net s) _ _ _ _ _ _ (go_stands (route_segment net) (route_box net) s.run t k is) (go_across (route_segment net) (route_box net) s.run t k is) (go_made s.run t k is)
 
 -- who holds a segment wherever it has an arm holds it at both ends
 high_arm : (g : Segment) → (i : ℕ) × (arm_at g.high.at.0 g ≡ Some i)
