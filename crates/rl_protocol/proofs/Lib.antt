@@ -17,3 +17,4 @@ pub mod Locking
 pub mod Passing
 pub mod Paths
 pub mod Moved
+pub mod Safe

@@ -285,7 +285,7 @@ module _ (net : NetworkPlan) (line : Line) (tries : ℕ) (s : State) (network : 
       let within : k < line.steps t = subst (λ z. z < line.steps t) passing.1 (passing_within t passing.0) in
       leave_moves net line s t k (row_step t k within) fits.1 (row_apart t k within)
 
-  moved_by : (step : Step) → Fits line s step → Known line s step → MovesBy net (world_at net s) (world_at net (next line s step)) (move_of line step)
+  pub moved_by : (step : Step) → Fits line s step → Known line s step → MovesBy net (world_at net s) (world_at net (next line s step)) (move_of line step)
   moved_by (post t l) fits known = refl
   moved_by (hear_yes t l) fits known = refl
   moved_by (hear_no t l u job) fits known = refl

@@ -9,14 +9,14 @@ use Rattle.rl_base.specs.Kind.{joining_side}
 use Rattle.rl_model.specs.declared.moves.Points.{Points}
 use Rattle.rl_model.specs.declared.moves.Points.TheVariants as points
 use Rattle.rl_model.specs.declared.network.NetworkPlan.{NetworkPlan}
-use Rattle.rl_model.specs.Network.{kind_of, start_side, segment_at, arm_of, steps_of, route_segment, route_box, IsStep}
+use Rattle.rl_model.specs.Network.{kind_of, start_side, segment_at, arm_of, steps_of, route_segment, route_box, IsStep, IsNetwork}
 use Rattle.rl_model.specs.World.{World, points_at}
 use Rattle.rl_words.specs.declared.lock.LockWord.{LockWord}
 use Rattle.rl_words.specs.declared.lock.LockWord.TheVariants.{Free, Asked, Moving, Moved, Locked}
 use Rattle.rl_words.specs.declared.lock.Path.{Path}
 use Rattle.rl_words.specs.declared.run.RunWord.{RunWord}
 use Rattle.rl_words.specs.declared.run.RunWord.TheVariants.{Clear, Go, Across}
-use Rattle.rl_protocol.specs.Line.{Line, is_held_by}
+use Rattle.rl_protocol.specs.Line.{Line, is_held_by, IsConsistent}
 use Rattle.rl_protocol.specs.State.{State}
 use Rattle.rl_protocol.specs.Steps.{other_side}
 
@@ -37,6 +37,12 @@ pub record IsLineOf (net : NetworkPlan) (line : Line) : Type 0 where
   pub steps : (t : ℕ) → line.steps t ≡ steps_of net t
   pub rows : (t k : ℕ) → k < line.steps t → let row = line.row t k in IsStep net t k row.s.0 row.b.0 row.s2.0
   pub ends : (t k b x : ℕ) → line.ends t k b x ≡ same_number (segment_at net b x) (route_segment net t k)
+
+-- a network, and a consistent line of it
+pub record IsRailway (net : NetworkPlan) (line : Line) : Type 0 where
+  pub network : IsNetwork net
+  pub line_of : IsLineOf net line
+  pub consistent : IsConsistent line
 
 -- a train whose route has these segments occupies the one that its run word names, and the next one too while it is
 -- across the box between them
