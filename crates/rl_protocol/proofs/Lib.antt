@@ -18,3 +18,4 @@ pub mod Passing
 pub mod Paths
 pub mod Moved
 pub mod Safe
+pub mod Refusals

@@ -6,3 +6,4 @@ pub mod Runs
 pub mod Held
 pub mod Agreement
 pub mod Worlds
+pub mod Outlook
