@@ -19,3 +19,4 @@ pub mod Paths
 pub mod Moved
 pub mod Safe
 pub mod Refusals
+pub mod Served

@@ -65,7 +65,7 @@ item_there (x ∷ xs) zero h = (x, refl)
 item_there (x ∷ xs) (suc k) h = item_there xs k (omega arith)
 
 -- a lock that isn't being set is set
-set_lock : (w : LockWord) (t x y : ℕ) → is_locked_by w t x y ≡ true → ((p : Path) → path_in_setting w ≡ Some p → p.train.0 ≢ t) → (p : Path) × (w ≡ Locked p) × (p.x.0 ≡ x) × (p.y.0 ≡ y)
+pub set_lock : (w : LockWord) (t x y : ℕ) → is_locked_by w t x y ≡ true → ((p : Path) → path_in_setting w ≡ Some p → p.train.0 ≢ t) → (p : Path) × (w ≡ Locked p) × (p.x.0 ≡ x) × (p.y.0 ≡ y)
 set_lock (Free side) t x y h other = absurd (false≢true h)
 set_lock (Asked p) t x y h other = absurd (other p refl (eqb-true _ _ (and_parts _ _ (and_parts _ _ h).0).0))
 set_lock (Moving p) t x y h other = absurd (other p refl (eqb-true _ _ (and_parts _ _ (and_parts _ _ h).0).0))
