@@ -20,3 +20,4 @@ pub mod Moved
 pub mod Safe
 pub mod Refusals
 pub mod Served
+pub mod Resting

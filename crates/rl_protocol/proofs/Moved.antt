@@ -59,7 +59,7 @@ same_off : (o p : Option ℕ) (m n : ℕ) → o ≡ Some m → p ≡ Some n → 
 same_off o p m n e f h = λ same. grind (arith, nat_tests)
 
 -- an item in range is there
-item_there : {A : Type 0} (xs : List A) (k : ℕ) → k < length xs → (x : A) × (slice_get xs k ≡ Some x)
+pub item_there : {A : Type 0} (xs : List A) (k : ℕ) → k < length xs → (x : A) × (slice_get xs k ≡ Some x)
 item_there [] k h = absurd (omega arith)
 item_there (x ∷ xs) zero h = (x, refl)
 item_there (x ∷ xs) (suc k) h = item_there xs k (omega arith)

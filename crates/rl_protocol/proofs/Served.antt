@@ -1,6 +1,7 @@
 -- A box that serves a letter, or has an answer to say, has a step on the word at which it looks.
 use Rattle.std.proofs.Common.{◌≡◌, ◌≢◌, ℕ, ◌+◌, ◌<◌, ◌==◌, Bool, true, false, cond, not, ◌&&◌, ◌||◌, Option, Some, None, refl, sym, ap, ◌∙◌, subst, inl, inr, ◌⊎◌, ⊎_elim, arith}
 use Rattle.std.proofs.lemmas.Bool.{eq-eqb, eqb-true, ne_eqb, and_parts, and_from, cases_eq, both_ways, false≢true}
+use Rattle.std.proofs.lemmas.Option.{same_Some}
 use Rattle.std.proofs.lemmas.Bool.Decides.{nat_tests}
 use Rattle.rl_base.specs.declared.ids.TrainId.{TrainId}
 use Rattle.rl_base.specs.declared.job.Verb.{Verb}
@@ -183,3 +184,22 @@ module _ (line : Line) (tries : ℕ) (s : State) (laws : IsConsistent line) (agr
       of verbs.Release e = serves_release e
       of verbs.Lock e = serves_lock e
       of verbs.Unlock e = serves_unlock e
+
+-- and a box that says has its answer to say
+pub says_step : (line : Line) (tries : ℕ) (s : State) (b : ℕ) (t : TrainId) (l : Letter) (answer : Answer) → Agrees line tries s → (s.boxes b).work ≡ Say t l answer → HasStep line s (nodes.Box (box b)) (words.Mail t)
+says_step line tries s b t l answers.Yes agrees says = record { step = say_yes b t.0 l; fits = (says, (agrees.mailboxes.says b t l answers.Yes says).0); by_node = refl; on_word = refl }
+says_step line tries s b t l (answers.No u) agrees says =
+    record {
+      step = say_no b t.0 l u;
+      fits = (says, asked_refusable s b l u l.verb (agrees.answers.has b t u l says), (agrees.mailboxes.says b t l (answers.No u) says).0);
+      by_node = refl;
+      on_word = refl;
+    }
+
+pub at_work : (line : Line) (tries : ℕ) (s : State) (b : ℕ) (word : WordKind) → IsConsistent line → Agrees line tries s → word_at_work b (s.boxes b).work ≡ Some word → HasStep line s (nodes.Box (box b)) word
+at_work line tries s b word laws agrees h = of (s.boxes b).work refl h
+  where
+    of : (work : Work) → (s.boxes b).work ≡ work → word_at_work b work ≡ Some word → HasStep line s (nodes.Box (box b)) word
+    of Ready is h = cc
+    of (Serve t l) is h = subst (HasStep line s (nodes.Box (box b))) (same_Some (word_for b l.verb) word h) (served line tries s laws agrees b t.0 l is)
+    of (Say t l answer) is h = subst (HasStep line s (nodes.Box (box b))) (same_Some (words.Mail t) word h) (says_step line tries s b t l answer agrees is)
