@@ -21,3 +21,5 @@ pub mod Safe
 pub mod Refusals
 pub mod Served
 pub mod Resting
+pub mod Ranks
+pub mod Counted

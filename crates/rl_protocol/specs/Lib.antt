@@ -7,3 +7,4 @@ pub mod Held
 pub mod Agreement
 pub mod Worlds
 pub mod Outlook
+pub mod Counts
