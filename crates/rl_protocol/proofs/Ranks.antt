@@ -3,12 +3,14 @@ use Rattle.std.proofs.Common.{◌≡◌, ◌≢◌, ℕ, ◌+◌, ◌-◌, ◌*�
 use Rattle.std.proofs.lemmas.Bool.{false≢true}
 use Rattle.std.proofs.lemmas.Option.{none-some}
 use Rattle.std.proofs.lemmas.Bool.Decides.{nat_tests}
+use Rattle.rl_base.specs.declared.ids.TrainId.{TrainId}
 use Rattle.rl_base.specs.declared.job.Job.{Job}
 use Rattle.rl_base.specs.declared.job.Job.TheVariants as jobs
 use Rattle.rl_base.specs.declared.job.Verb.{Verb}
 use Rattle.rl_base.specs.declared.job.Verb.TheVariants as verbs
 use Rattle.rl_words.specs.declared.lock.LockWord.{LockWord}
 use Rattle.rl_words.specs.declared.lock.LockWord.TheVariants.{Free, Asked, Moving, Moved, Locked}
+use Rattle.rl_words.specs.declared.lock.Path.{Path}
 use Rattle.rl_words.specs.declared.mail.Letter.{Letter}
 use Rattle.rl_words.specs.declared.mail.MailWord.{MailWord}
 use Rattle.rl_words.specs.declared.mail.MailWord.TheVariants.{Empty, Ask, Taken, Yes, No}
@@ -16,6 +18,7 @@ use Rattle.rl_words.specs.declared.run.RunWord.{RunWord}
 use Rattle.rl_words.specs.declared.run.RunWord.TheVariants.{Clear, Go, Across}
 use Rattle.rl_tables.specs.declared.table.StepRow.{StepRow}
 use Rattle.rl_train.specs.declared.mind.TrainMind.{TrainMind}
+use Rattle.rl_box.specs.declared.mind.Answer.{Answer}
 use Rattle.rl_box.specs.declared.mind.Answer.TheVariants as answers
 use Rattle.rl_box.specs.declared.mind.BoxMind.{BoxMind}
 use Rattle.rl_box.specs.declared.mind.Work.{Work}
@@ -227,3 +230,67 @@ rank_opened w jobs.FreeNear h = cc
 rank_opened w jobs.FreeFar h = cc
 rank_opened w jobs.DropFar h = cc
 rank_opened w jobs.DropNear h = cc
+
+-- no rank is above what an attempt can weigh
+pub rank_ready : (w : Weights) (job : Job) → ready_rank w job ≤ attempt_weight w
+unfolding job_rank begins
+rank_ready w jobs.Near = omega arith
+rank_ready w jobs.Far = omega arith
+rank_ready w jobs.Lock = omega arith
+rank_ready w jobs.Pass = omega arith
+rank_ready w jobs.Unlock = omega arith
+rank_ready w jobs.FreeNear = omega arith
+rank_ready w jobs.FreeFar = omega arith
+rank_ready w jobs.DropFar = omega arith
+rank_ready w jobs.DropNear = omega arith
+
+pub rank_asking : (w : Weights) (row : StepRow) (job : Job) (l : Letter) → letter_at job row ≡ Some l → job_rank w job + letter_weight w + verb_weight w l.verb ≤ attempt_weight w
+unfolding letter_at job_rank
+rank_asking w row jobs.Near l h = grind arith
+rank_asking w row jobs.Far l h = grind arith
+rank_asking w row jobs.Lock l h = grind arith
+rank_asking w row jobs.Pass l h = absurd (none-some l h)
+rank_asking w row jobs.Unlock l h = grind arith
+rank_asking w row jobs.FreeNear l h = grind arith
+rank_asking w row jobs.FreeFar l h = grind arith
+rank_asking w row jobs.DropFar l h = grind arith
+rank_asking w row jobs.DropNear l h = grind arith
+
+pub rank_passing : (w : Weights) (job : Job) → passes job ≡ true → job_rank w job + passage_weight w ≤ attempt_weight w
+unfolding passes job_rank
+rank_passing w jobs.Near h = cc
+rank_passing w jobs.Far h = cc
+rank_passing w jobs.Lock h = cc
+rank_passing w jobs.Pass h = omega arith
+rank_passing w jobs.Unlock h = cc
+rank_passing w jobs.FreeNear h = cc
+rank_passing w jobs.FreeFar h = cc
+rank_passing w jobs.DropFar h = cc
+rank_passing w jobs.DropNear h = cc
+
+pub run_bounded : (w : Weights) (phase : TrackPhase) (run : RunWord) → run_rank w phase run ≤ passage_weight w
+run_bounded w phase run = grind arith
+
+-- a box that has a letter in hand has weighed no more than the letter can
+pub box_bounded : (w : Weights) (t : ℕ) (m : BoxMind) (v : LockWord) (verb : Verb)
+  → ((u : TrainId) (l : Letter) (a : Answer) → m.work ≡ Say u l a → u.0 ≡ t → l.verb ≡ verb)
+  → ((p : Path) → m.waiting ≡ Some p → p.train.0 ≡ t → verb ≡ verbs.Lock)
+  → ((u : TrainId) (l : Letter) (a : Answer) (p : Path) → m.work ≡ Say u l a → m.waiting ≡ Some p → p.train.0 ≢ u.0)
+  → box_rank w t m v ≤ w.grant + w.tell + verb_weight w verb
+box_bounded w t m v verb says waits one = of m.work m.waiting refl refl
+  where
+    of : (work : Work) (o : Option Path) → m.work ≡ work → m.waiting ≡ o → work_rank w t work + cond (is_path_of t o) (lock_rank w v) 0 ≤ w.grant + w.tell + verb_weight w verb
+    of Ready None e f = omega arith
+    of Ready (Some p) e f = by_path p (waits p f)
+      where
+        by_path : (p : Path) → (p.train.0 ≡ t → verb ≡ verbs.Lock) → 0 + cond (is_path_of t (Some p)) (lock_rank w v) 0 ≤ w.grant + w.tell + verb_weight w verb
+        by_path p is = grind (arith, nat_tests)
+    of (Serve u l) None e f = omega arith
+    of (Serve u l) (Some p) e f = by_path p (waits p f)
+      where
+        by_path : (p : Path) → (p.train.0 ≡ t → verb ≡ verbs.Lock) → 0 + cond (is_path_of t (Some p)) (lock_rank w v) 0 ≤ w.grant + w.tell + verb_weight w verb
+        by_path p is = grind (arith, nat_tests)
+    of (Say u l answers.Yes) None e f = let is = says u l answers.Yes e in let fair = w.fair in grind (arith, nat_tests)
+    of (Say u l (answers.No x)) None e f = let fair = w.fair in grind (arith, nat_tests)
+    of (Say u l answers.Yes) (Some p) e f = let is = says u l answers.Yes e in let lock = waits p f in let other = one u l answers.Yes p e f in grind (arith, nat_tests)
+    of (Say u l (answers.No x)) (Some p) e f = let lock = waits p f in let other = one u l (answers.No x) p e f in let fair = w.fair in grind (arith, nat_tests)
