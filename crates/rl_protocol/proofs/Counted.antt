@@ -1,5 +1,6 @@
 -- Each step adds its weight to the rank of the train that it is about, or opens an attempt.
-use Rattle.std.proofs.Common.{◌≡◌, ◌≢◌, ℕ, ◌+◌, ◌-◌, ◌*◌, ◌<◌, ◌≤◌, ◌==◌, Bool, true, false, cond, if◌then◌else◌, not, ◌&&◌, ◌||◌, Option, Some, None, refl, sym, ap, ◌∙◌, subst, arith}
+use Rattle.std.proofs.Common.{◌≡◌, ◌≢◌, ℕ, ◌+◌, ◌-◌, ◌*◌, ◌<◌, ◌≤◌, ◌==◌, Bool, true, false, cond, if◌then◌else◌, not, ◌&&◌, ◌||◌, Option, Some, None, refl, sym, ap, ◌∙◌, subst, inl, inr, ◌⊎◌, ⊎_elim, arith}
+use Rattle.std.proofs.lemmas.Bool.{cases_Bool}
 use Rattle.std.proofs.lemmas.Bool.Decides.{nat_tests}
 use Rattle.rl_base.specs.declared.ids.TrainId.{TrainId}
 use Rattle.rl_words.specs.declared.mail.Letter.{Letter}
@@ -87,3 +88,30 @@ bounded w line tries s t agrees = of (s.trains t).waits (passes (s.trains t).job
     of true false e f =
         let there = letter_there (s.trains t).job (line.row t (s.trains t).step) f in
         omega (arith, rank_asking w (line.row t (s.trains t).step) (s.trains t).job there.0 there.1, in_mail there.0 (s.mail t) refl (agrees.mailboxes.letter t there.0 e there.1))
+
+-- each step does either
+pub raised_or_opened : (w : Weights) (line : Line) (s : State) (t : ℕ) (step : Step) → AgreesOnPassage s t → Fits line s step → Known line s step → let m = (next line s step).trains t in ((m.left ≡ (s.trains t).left) × (rank w s t + weight_for w t step ≤ rank w (next line s step) t)) ⊎ (((s.trains t).left ≡ m.left + 1) × (rank w s t ≡ attempt_weight w) × (weight_for w t step ≤ rank w (next line s step) t))
+unfolding Raises Opens
+raised_or_opened w line s t (post u l) passage fits known =
+    ⊎_elim (λ e. inr (opened w line s t u l fits known e)) (λ e. inl (raised w line s t (post u l) passage fits known e)) (cases_Bool (opens s t (post u l)))
+raised_or_opened w line s t (hear_yes u l) passage fits known = inl (raised w line s t (hear_yes u l) passage fits known refl)
+raised_or_opened w line s t (hear_no u l v job) passage fits known = inl (raised w line s t (hear_no u l v job) passage fits known refl)
+raised_or_opened w line s t (go u) passage fits known = inl (raised w line s t (go u) passage fits known refl)
+raised_or_opened w line s t (quiet u) passage fits known = inl (raised w line s t (quiet u) passage fits known refl)
+raised_or_opened w line s t (take b u l) passage fits known = inl (raised w line s t (take b u l) passage fits known refl)
+raised_or_opened w line s t (grant b u l) passage fits known = inl (raised w line s t (grant b u l) passage fits known refl)
+raised_or_opened w line s t (refuse b u l v) passage fits known = inl (raised w line s t (refuse b u l v) passage fits known refl)
+raised_or_opened w line s t (release b u l) passage fits known = inl (raised w line s t (release b u l) passage fits known refl)
+raised_or_opened w line s t (lock_now b u l side) passage fits known = inl (raised w line s t (lock_now b u l side) passage fits known refl)
+raised_or_opened w line s t (lock_ask b u l side) passage fits known = inl (raised w line s t (lock_ask b u l side) passage fits known refl)
+raised_or_opened w line s t (lock_moved b p) passage fits known = inl (raised w line s t (lock_moved b p) passage fits known refl)
+raised_or_opened w line s t (unlock b u l side) passage fits known = inl (raised w line s t (unlock b u l side) passage fits known refl)
+raised_or_opened w line s t (say_yes b u l) passage fits known = inl (raised w line s t (say_yes b u l) passage fits known refl)
+raised_or_opened w line s t (say_no b u l v) passage fits known = inl (raised w line s t (say_no b u l v) passage fits known refl)
+raised_or_opened w line s t (busy b u l p) passage fits known = inl (raised w line s t (busy b u l p) passage fits known refl)
+raised_or_opened w line s t (throw b p) passage fits known = inl (raised w line s t (throw b p) passage fits known refl)
+raised_or_opened w line s t (settle b p) passage fits known = inl (raised w line s t (settle b p) passage fits known refl)
+raised_or_opened w line s t (enter u k) passage fits known = inl (raised w line s t (enter u k) passage fits known refl)
+raised_or_opened w line s t (head u k) passage fits known = inl (raised w line s t (head u k) passage fits known refl)
+raised_or_opened w line s t (leave u k) passage fits known = inl (raised w line s t (leave u k) passage fits known refl)
+raised_or_opened w line s t (tail u k) passage fits known = inl (raised w line s t (tail u k) passage fits known refl)

@@ -23,3 +23,4 @@ pub mod Served
 pub mod Resting
 pub mod Ranks
 pub mod Counted
+pub mod Totals

@@ -27,7 +27,7 @@ use Rattle.rl_track.specs.declared.track.TrackPhase.{TrackPhase}
 use Rattle.rl_track.specs.declared.track.TrackPhase.TheVariants.{Watch, HeadDue, LeaveDue, TailDue}
 use Rattle.rl_protocol.specs.Line.{Line}
 use Rattle.rl_protocol.specs.Jobs.{letter_at, job_after_yes, job_after_no, passes, begins}
-use Rattle.rl_protocol.specs.State.{State}
+use Rattle.rl_protocol.specs.State.{State, start}
 use Rattle.rl_protocol.specs.Steps.{Step, post, hear_yes, hear_no, go, quiet, take, grant, refuse, release, lock_now, lock_ask, lock_moved, unlock, say_yes, say_no, busy, throw, settle, enter, head, leave, tail}
 use Rattle.rl_protocol.specs.Held.{is_path_of}
 
@@ -294,3 +294,8 @@ box_bounded w t m v verb says waits one = of m.work m.waiting refl refl
     of (Say u l (answers.No x)) None e f = let fair = w.fair in grind (arith, nat_tests)
     of (Say u l answers.Yes) (Some p) e f = let is = says u l answers.Yes e in let lock = waits p f in let other = one u l answers.Yes p e f in grind (arith, nat_tests)
     of (Say u l (answers.No x)) (Some p) e f = let lock = waits p f in let other = one u l (answers.No x) p e f in let fair = w.fair in grind (arith, nat_tests)
+
+-- at the start no attempt is open
+pub rank_starts : (w : Weights) (line : Line) (tries t : ℕ) → rank w (start line tries) t ≡ attempt_weight w
+unfolding begins
+rank_starts w line tries t = refl

@@ -1,9 +1,14 @@
 -- Counts: the events of a node, and the attempts that trains have posted.
-use Rattle.std.specs.Prelude.{ℕ, zero, suc, ◌+◌, ◌-◌, ◌==◌, Bool, false, List, count_by}
+use Rattle.std.specs.Prelude.{◌≡◌, ◌≤◌, ℕ, zero, suc, ◌+◌, ◌-◌, ◌==◌, Bool, false, List, count_by}
 use Rattle.rl_base.specs.declared.layout.NodeKind.{NodeKind}
 use Rattle.rl_base.specs.declared.layout.NodeKind.TheVariants.{Train, Track, Box, Machine}
+use Rattle.rl_protocol.specs.Line.{Line}
 use Rattle.rl_protocol.specs.State.{State}
 use Rattle.rl_protocol.specs.Steps.{Step, node_of}
+
+-- only trains below this number have steps to make
+abbrev pub HasTrains : Line → ℕ → Type 0
+HasTrains line trains = (t : ℕ) → trains ≤ t → line.steps t ≡ 0
 
 abbrev pub same_node : NodeKind → NodeKind → Bool
 same_node (Train t) (Train u) = t.0 == u.0

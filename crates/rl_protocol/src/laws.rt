@@ -1,4 +1,5 @@
-ghost use Rattle.std.specs.Prelude.{◌≡◌, ℕ, ◌<◌, true, List, length, Some, None};
+ghost use Rattle.std.specs.Prelude.{◌≡◌, ℕ, ◌*◌, ◌<◌, ◌≤◌, true, List, length, Some, None};
+ghost use Rattle.rl_base.specs.declared.layout.NodeKind.{NodeKind};
 ghost use Rattle.rl_base.specs.declared.layout.NodeKind.TheVariants as nodes;
 ghost use Rattle.rl_base.specs.declared.layout.WordKind.{WordKind};
 ghost use Rattle.rl_model.specs.declared.moves.Move.{Move};
@@ -13,6 +14,7 @@ ghost use Rattle.rl_protocol.specs.Steps.{Step, Fits, next, move_of, box, at_res
 ghost use Rattle.rl_protocol.specs.Runs.{state_after, IsRun, moves_of};
 ghost use Rattle.rl_protocol.specs.Agreement.{Agrees};
 ghost use Rattle.rl_protocol.specs.Worlds.{IsRailway, world_at};
+ghost use Rattle.rl_protocol.specs.Counts.{HasTrains, events_of, attempts_posted};
 ghost use Rattle.rl_protocol.specs.Outlook.{refusals_said, HasStep, word_at_work, AllRest, IsAtRest};
 
 /// Minds and words agree in every state that a run of steps leaves, whatever the nodes and their order.
@@ -49,4 +51,12 @@ pub fn trains_at_rest()
     ensures all { (line : Line) (tries : ℕ) (steps : List Step) → IsConsistent line → IsRun line tries steps → AllRest line (state_after line tries steps) → IsAtRest line (state_after line tries steps) }
     ensures each { (net : NetworkPlan) (line : Line) (tries : ℕ) (steps : List Step) (t : ℕ) → IsRailway net line → IsRun line tries steps → t < length net.trains → at_rest line t ((state_after line tries steps).trains t) ≡ true → Rests net (world_at net (state_after line tries steps)) t }
     ensures without_steps { (line : Line) (tries : ℕ) (steps : List Step) (t : ℕ) → IsConsistent line → IsRun line tries steps → line.steps t ≡ 0 → at_rest line t ((state_after line tries steps).trains t) ≡ true }
+{}
+
+/// In every run all steps together, those of each node, and the moves are at most so many for each attempt posted.
+pub fn counted_steps()
+    ensures steps { (line : Line) (tries trains : ℕ) (steps : List Step) → IsConsistent line → HasTrains line trains → IsRun line tries steps → length steps ≤ 39 * attempts_posted tries (state_after line tries steps) trains }
+    ensures node { (line : Line) (tries trains : ℕ) (steps : List Step) (node : NodeKind) → IsConsistent line → HasTrains line trains → IsRun line tries steps → events_of node steps ≤ 19 * attempts_posted tries (state_after line tries steps) trains }
+    ensures moves { (line : Line) (tries trains : ℕ) (steps : List Step) → IsConsistent line → HasTrains line trains → IsRun line tries steps → length (moves_of line steps) ≤ 10 * attempts_posted tries (state_after line tries steps) trains }
+    ensures posted { (line : Line) (tries trains : ℕ) (steps : List Step) → attempts_posted tries (state_after line tries steps) trains ≤ trains * tries }
 {}
