@@ -82,6 +82,7 @@ bounded w line tries s t agrees = of (s.trains t).waits (passes (s.trains t).job
         taken_verb u l2 k e f g = grind arith
     in_mail l (Yes k) is h = let same : verb_weight w k.verb ≡ verb_weight w l.verb = ap (λ z. verb_weight w z.verb) h in omega arith
     in_mail l (No k u) is h = omega arith
+
     of : (waits passing : Bool) → (s.trains t).waits ≡ waits → passes (s.trains t).job ≡ passing → cond waits (job_rank w (s.trains t).job + cond passing (run_rank w (s.tracks t).phase (s.run t)) (mail_rank w s t (s.mail t))) (ready_rank w (s.trains t).job) ≤ attempt_weight w
     of false passing e f = rank_ready w (s.trains t).job
     of true true e f = omega (arith, rank_passing w (s.trains t).job f, run_bounded w (s.tracks t).phase (s.run t))

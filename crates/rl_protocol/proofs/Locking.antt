@@ -49,7 +49,7 @@ same_points kinds lock b w is c = cond_both (c == b) w (lock c) (λ v. points_in
 set_points : (kinds : ℕ → Kind) (lock : ℕ → LockWord) (b : ℕ) (w : LockWord) (p : Points) → points_in (kinds b) w ≡ p → (c : ℕ) → points_in (kinds c) (put lock b w c) ≡ cond (c == b) p (points_in (kinds c) (lock c))
 set_points kinds lock b w p is c =
     elim (c == b) as (λ t. (c == b) ≡ t → points_in (kinds c) (cond t w (lock c)) ≡ cond t p (points_in (kinds c) (lock c))) [
-      true ↦ (λ e. subst (λ z. points_in (kinds z) w ≡ p) (sym (eqb-true c b e)) is)
+      | true ↦ (λ e. subst (λ z. points_in (kinds z) w ≡ p) (sym (eqb-true c b e)) is)
       | false ↦ (λ e. refl)
     ] refl
 
@@ -98,17 +98,23 @@ module _ (net : NetworkPlan) (line : Line) (s : State) (b : ℕ) (p : Path) (are
       ∙ path.joined
 
   pub lock_moves : (side : Side) (w : LockWord) → s.lock b ≡ Free side → is_held_by p.train.0 (s.resv b p.x.0) ≡ true → is_held_by p.train.0 (s.resv b p.y.0) ≡ true
-    → ((u f g : ℕ) → locks (segment_at net b) w u f g ≡ is_passage (segment_at net b) p u f g) → points_in (kind_of net b) w ≡ standing (kind_of net b) side
-    → IsMove net (world_at net s) (world_at net (record s { lock = put s.lock b w })) (moves.Lock p.train (box b) (seg_at line b p.x) (seg_at line b p.y))
+      → ((u f g : ℕ) → locks (segment_at net b) w u f g ≡ is_passage (segment_at net b) p u f g) → points_in (kind_of net b) w ≡ standing (kind_of net b) side
+      → IsMove net (world_at net s) (world_at net (record s { lock = put s.lock b w })) (moves.Lock p.train (box b) (seg_at line b p.x) (seg_at line b p.y))
   lock_moves side w free held_x held_y is stays =
       record {
-        guarded = ((segments_apart, ap is_some from_arm, ap is_some to_arm),
-        ((λ u f g. ap (λ v. locks (segment_at net b) v u f g) free),
-        ((held_at net s p.train.0 _ b p.x.0 from_arm ∙ held_x, held_at net s p.train.0 _ b p.y.0 to_arm ∙ held_y),
-        (can_connect_at, tt))));
+        guarded = (
+          (segments_apart, ap is_some from_arm, ap is_some to_arm),
+          (
+            (λ u f g. ap (λ v. locks (segment_at net b) v u f g) free),
+            (
+              (held_at net s p.train.0 _ b p.x.0 from_arm ∙ held_x, held_at net s p.train.0 _ b p.y.0 to_arm ∙ held_y),
+              (can_connect_at, tt),
+            ),
+          ),
+        );
         world = relocked (world_at net s) _ _ _ _
-        (λ c u f g. lock_one (segment_at net) s.lock b p _ _ path.x path.y side free w is c u f g)
-        (same_points (kind_of net) s.lock b w (stays ∙ ap (points_in (kind_of net b)) (sym free)));
+            (λ c u f g. lock_one (segment_at net) s.lock b p _ _ path.x path.y side free w is c u f g)
+            (same_points (kind_of net) s.lock b w (stays ∙ ap (points_in (kind_of net b)) (sym free)));
       }
 
   own_path : is_passage (segment_at net b) p p.train.0 (seg_at line b p.x).0 (seg_at line b p.y).0 ≡ true
@@ -117,13 +123,13 @@ module _ (net : NetworkPlan) (line : Line) (s : State) (b : ℕ) (p : Path) (are
       (ap (λ o. is_number o (seg_at line b p.y).0) path.y ∙ eq-eqb (seg_at line b p.y).0 (seg_at line b p.y).0 refl)
 
   pub unlock_moves : (side : Side) → s.lock b ≡ Locked p → joining_side (kind_of net b) p.x.0 p.y.0 ≡ Some side → ((box : ℕ) → IsNotAcross (world_at net s) p.train.0 box)
-    → IsMove net (world_at net s) (world_at net (record s { lock = put s.lock b (Free side) })) (moves.Unlock p.train (box b))
+      → IsMove net (world_at net s) (world_at net (record s { lock = put s.lock b (Free side) })) (moves.Unlock p.train (box b))
   unlock_moves side locked joins off =
       record {
         guarded = ((_, _, ap (λ v. locks (segment_at net b) v p.train.0 (seg_at line b p.x).0 (seg_at line b p.y).0) locked ∙ own_path), (off b, tt));
         world = relocked (world_at net s) _ _ _ _
-        (λ c u f g. unlock_one (segment_at net) s.lock b p _ _ path.x path.y side c u f g)
-        (same_points (kind_of net) s.lock b (Free side) (ap (λ o. standing (kind_of net b) (unwrap_or o Left)) (sym joins) ∙ ap (points_in (kind_of net b)) (sym locked)));
+            (λ c u f g. unlock_one (segment_at net) s.lock b p _ _ path.x path.y side c u f g)
+            (same_points (kind_of net) s.lock b (Free side) (ap (λ o. standing (kind_of net b) (unwrap_or o Left)) (sym joins) ∙ ap (points_in (kind_of net b)) (sym locked)));
       }
 
   -- any path that is locked is this one
@@ -143,15 +149,20 @@ module _ (net : NetworkPlan) (line : Line) (s : State) (b : ℕ) (p : Path) (are
       let stands : (world_at net s).points b ≡ points_at (other_side side.0) =
       ap (points_in (kind_of net b)) asked ∙ ap (λ o. standing (kind_of net b) (other_side (unwrap_or o Left))) side.1 ∙ ap (λ k. standing k (other_side side.0)) point in
       record {
-        guarded = (((_, _, _, ap (λ v. locks (segment_at net b) v p.train.0 (seg_at line b p.x).0 (seg_at line b p.y).0) asked ∙ own_path), (λ e. stands_still (other_side side.0) (sym stands ∙ e))),
-        ((λ u f g h.
-        ap (points_connect net b f g) stands ∙ at_side net b f g (other_side side.0)
-        ∙ locked_connects f g u (other_side side.0) (sym (ap (λ v. locks (segment_at net b) v u f g) asked) ∙ h)
-        ∙ ap (λ k. arms_join k p.x.0 p.y.0 (other_side side.0)) point
-        ∙ one_side p.x.0 p.y.0 side.0 (sym (ap (λ k. arms_join k p.x.0 p.y.0 side.0) point) ∙ side.2)), tt));
+        guarded = (
+          ((_, _, _, ap (λ v. locks (segment_at net b) v p.train.0 (seg_at line b p.x).0 (seg_at line b p.y).0) asked ∙ own_path), (λ e. stands_still (other_side side.0) (sym stands ∙ e))),
+          (
+            (λ u f g h.
+                ap (points_connect net b f g) stands ∙ at_side net b f g (other_side side.0)
+                ∙ locked_connects f g u (other_side side.0) (sym (ap (λ v. locks (segment_at net b) v u f g) asked) ∙ h)
+                ∙ ap (λ k. arms_join k p.x.0 p.y.0 (other_side side.0)) point
+                ∙ one_side p.x.0 p.y.0 side.0 (sym (ap (λ k. arms_join k p.x.0 p.y.0 side.0) point) ∙ side.2)),
+            tt,
+          ),
+        );
         world = relocked (world_at net s) _ _ _ _
-        (same_lock (segment_at net) s.lock b (Moving p) (λ u f g. sym (ap (λ v. locks (segment_at net b) v u f g) asked)))
-        (set_points (kind_of net) s.lock b (Moving p) points.Moving (ap moving point));
+            (same_lock (segment_at net) s.lock b (Moving p) (λ u f g. sym (ap (λ v. locks (segment_at net b) v u f g) asked)))
+            (set_points (kind_of net) s.lock b (Moving p) points.Moving (ap moving point));
       }
 
   pub settle_moves : (side : Side) → s.lock b ≡ Moving p → kind_of net b ≡ Point → joining_side (kind_of net b) p.x.0 p.y.0 ≡ Some side → IsMove net (world_at net s) (world_at net (record s { lock = put s.lock b (Moved p) })) (moves.Settle (box b) side)
@@ -159,11 +170,16 @@ module _ (net : NetworkPlan) (line : Line) (s : State) (b : ℕ) (p : Path) (are
       let is = has_side (kind_of net b) p.x.0 p.y.0 path.joined in
       let same : is.0 ≡ side = same_Some is.0 side (sym is.1 ∙ joins) in
       record {
-        guarded = (((_, _, _, ap (λ v. locks (segment_at net b) v p.train.0 (seg_at line b p.x).0 (seg_at line b p.y).0) moving_now ∙ own_path), (ap (points_in (kind_of net b)) moving_now ∙ ap moving point)),
-        ((λ u f g h.
-        locked_connects f g u side (sym (ap (λ v. locks (segment_at net b) v u f g) moving_now) ∙ h)
-        ∙ subst (λ d. arms_join (kind_of net b) p.x.0 p.y.0 d ≡ true) same is.2), tt));
+        guarded = (
+          ((_, _, _, ap (λ v. locks (segment_at net b) v p.train.0 (seg_at line b p.x).0 (seg_at line b p.y).0) moving_now ∙ own_path), (ap (points_in (kind_of net b)) moving_now ∙ ap moving point)),
+          (
+            (λ u f g h.
+                locked_connects f g u side (sym (ap (λ v. locks (segment_at net b) v u f g) moving_now) ∙ h)
+                ∙ subst (λ d. arms_join (kind_of net b) p.x.0 p.y.0 d ≡ true) same is.2),
+            tt,
+          ),
+        );
         world = relocked (world_at net s) _ _ _ _
-        (same_lock (segment_at net) s.lock b (Moved p) (λ u f g. sym (ap (λ v. locks (segment_at net b) v u f g) moving_now)))
-        (set_points (kind_of net) s.lock b (Moved p) (points_at side) (ap (λ o. standing (kind_of net b) (unwrap_or o Left)) joins ∙ ap (λ k. standing k side) point));
+            (same_lock (segment_at net) s.lock b (Moved p) (λ u f g. sym (ap (λ v. locks (segment_at net b) v u f g) moving_now)))
+            (set_points (kind_of net) s.lock b (Moved p) (points_at side) (ap (λ o. standing (kind_of net b) (unwrap_or o Left)) joins ∙ ap (λ k. standing k side) point));
       }

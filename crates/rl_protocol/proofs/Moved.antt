@@ -243,8 +243,18 @@ module _ (net : NetworkPlan) (line : Line) (tries : ℕ) (s : State) (network : 
       let p = set.0 in
       let path = set_at b p (ap (λ w. is_locked_by w p.train.0 p.x.0 p.y.0) set.1 ∙ and_from _ _ (and_from _ _ (eq-eqb p.train.0 p.train.0 refl) (eq-eqb p.x.0 p.x.0 refl)) (eq-eqb p.y.0 p.y.0 refl)) in
       record {
-        guarded = ((other, (_, _, ap (λ v. locks (segment_at net b) v u.0 (seg_at line b p.x).0 (seg_at line b p.y).0) set.1
-        ∙ and_from _ _ (and_from _ _ (eq-eqb p.train.0 u.0 (ap (λ z. z.0) set.2)) (number_is _ _ path.x)) (number_is _ _ path.y))), tt);
+        guarded = (
+          (
+            other,
+            (
+              _,
+              _,
+              ap (λ v. locks (segment_at net b) v u.0 (seg_at line b p.x).0 (seg_at line b p.y).0) set.1
+                  ∙ and_from _ _ (and_from _ _ (eq-eqb p.train.0 u.0 (ap (λ z. z.0) set.2)) (number_is _ _ path.x)) (number_is _ _ path.y),
+            ),
+          ),
+          tt,
+        );
         world = refl;
       }
 

@@ -90,6 +90,7 @@ lock_is_own line tries s t b x y agrees h = of (done_letter s t) refl h
           at_x = only.2;
           at_y = only.3;
         }
+
     of : (o : Option Letter) → done_letter s t ≡ o → locked_with o b x y (job_locks line t (s.trains t) b x y) ≡ true → IsOwnPath line t (s.trains t) b x y
     of None is h = by_job h
     of (Some l) is h =
@@ -112,9 +113,10 @@ lock_held line tries s b t l laws agrees has verb =
     let at_x : (row_of line t (s.trains t)).x.0 ≡ l.x.0 = sym (ap (λ z. z.0) asks.x) in
     let at_y : (row_of line t (s.trains t)).y.0 ≡ l.y.0 = sym (ap (λ z. z.0) asks.y) in
     let here_b : line.ends t (s.trains t).step b l.x.0 ≡ true = subst (λ z. line.ends t (s.trains t).step z l.x.0 ≡ true) at_box (subst (λ z. line.ends t (s.trains t).step (row_of line t (s.trains t)).b.0 z ≡ true) at_x here) in
-    let ahead_b : line.ends t ((s.trains t).step + 1) b l.y.0 ≡ true = subst (λ z. line.ends t ((s.trains t).step + 1) z l.y.0 ≡ true) at_box (subst (λ z. line.ends t ((s.trains t).step + 1) (row_of line t (s.trains t)).b.0 z ≡ true) at_y ahead) in
-    (agrees.reservations.exact t b l.x.0 ∙ by_job has.mail verb l.x.0 ∙ asks.holds _ _ b l.x.0 ∙ or_left _ _ here_b,
-    agrees.reservations.exact t b l.y.0 ∙ by_job has.mail verb l.y.0 ∙ asks.holds _ _ b l.y.0 ∙ or_right _ _ ahead_b)
+    let ahead_b : line.ends t ((s.trains t).step + 1) b l.y.0 ≡ true = subst (λ z. line.ends t ((s.trains t).step + 1) z l.y.0 ≡ true) at_box (subst (λ z. line.ends t ((s.trains t).step + 1) (row_of line t (s.trains t)).b.0 z ≡ true) at_y ahead) in (
+      agrees.reservations.exact t b l.x.0 ∙ by_job has.mail verb l.x.0 ∙ asks.holds _ _ b l.x.0 ∙ or_left _ _ here_b,
+      agrees.reservations.exact t b l.y.0 ∙ by_job has.mail verb l.y.0 ∙ asks.holds _ _ b l.y.0 ∙ or_right _ _ ahead_b,
+    )
   where
     by_job : s.mail t ≡ Taken l → l.verb ≡ verbs.Lock → (x : ℕ) → holds line s t b x ≡ job_holds line t (s.trains t) b x
     by_job mail verb x = grind (arith, nat_tests)

@@ -26,8 +26,10 @@ one_end net s b x g is h =
   where
     at_box : (y : ℕ) → (y == b) ≡ true → y ≡ b
     at_box y e = grind (arith, nat_tests)
+
     same : {y z : ℕ} → Some y ≡ Some z → y ≡ z
     same e = cc
+
     end_is : (p q : Bool) {P : Type 0} → cond p (Some g.low.arm.0) (cond q (Some g.high.arm.0) None) ≡ Some x → (p ≡ true → Some g.low.arm.0 ≡ Some x → P) → (q ≡ true → Some g.high.arm.0 ≡ Some x → P) → P
     end_is true q h low high = low refl h
     end_is false true h low high = high refl h

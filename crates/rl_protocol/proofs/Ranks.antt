@@ -273,10 +273,10 @@ run_bounded w phase run = grind arith
 
 -- a box that has a letter in hand has weighed no more than the letter can
 pub box_bounded : (w : Weights) (t : ℕ) (m : BoxMind) (v : LockWord) (verb : Verb)
-  → ((u : TrainId) (l : Letter) (a : Answer) → m.work ≡ Say u l a → u.0 ≡ t → l.verb ≡ verb)
-  → ((p : Path) → m.waiting ≡ Some p → p.train.0 ≡ t → verb ≡ verbs.Lock)
-  → ((u : TrainId) (l : Letter) (a : Answer) (p : Path) → m.work ≡ Say u l a → m.waiting ≡ Some p → p.train.0 ≢ u.0)
-  → box_rank w t m v ≤ w.grant + w.tell + verb_weight w verb
+    → ((u : TrainId) (l : Letter) (a : Answer) → m.work ≡ Say u l a → u.0 ≡ t → l.verb ≡ verb)
+    → ((p : Path) → m.waiting ≡ Some p → p.train.0 ≡ t → verb ≡ verbs.Lock)
+    → ((u : TrainId) (l : Letter) (a : Answer) (p : Path) → m.work ≡ Say u l a → m.waiting ≡ Some p → p.train.0 ≢ u.0)
+    → box_rank w t m v ≤ w.grant + w.tell + verb_weight w verb
 box_bounded w t m v verb says waits one = of m.work m.waiting refl refl
   where
     of : (work : Work) (o : Option Path) → m.work ≡ work → m.waiting ≡ o → work_rank w t work + cond (is_path_of t o) (lock_rank w v) 0 ≤ w.grant + w.tell + verb_weight w verb

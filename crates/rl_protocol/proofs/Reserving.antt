@@ -53,7 +53,7 @@ module _ (net : NetworkPlan) (line : Line) (s : State) (b t : ℕ) (l : Letter) 
       record {
         guarded = (ap is_some arm_there, (λ u. held_at net s u (seg_at line b l.x).0 b l.x.0 arm_there ∙ ap (is_held_by u) free, tt));
         world = ap (λ h. record (world_at net s) { holds = h })
-        (fun_ext (λ u. fun_ext (λ r. fun_ext (λ c. reserve_one (arm_of net) (segment_at net) are.to_segment s.resv t (seg_at line b l.x).0 b l.x.0 segment_there arm_there free u r c (arm_of net r c) refl))));
+            (fun_ext (λ u. fun_ext (λ r. fun_ext (λ c. reserve_one (arm_of net) (segment_at net) are.to_segment s.resv t (seg_at line b l.x).0 b l.x.0 segment_there arm_there free u r c (arm_of net r c) refl))));
       }
 
   pub release_moves : s.resv b l.x.0 ≡ Some (train t) → (world_at net s).occupies t (seg_at line b l.x).0 ≡ false → IsMove net (world_at net s) (world_at net (next line s (release b t l))) (moves.Release (train t) (seg_at line b l.x) (box b))
@@ -61,5 +61,5 @@ module _ (net : NetworkPlan) (line : Line) (s : State) (b t : ℕ) (l : Letter) 
       record {
         guarded = (ap is_some arm_there, (held_at net s t (seg_at line b l.x).0 b l.x.0 arm_there ∙ ap (is_held_by t) held ∙ eq-eqb t t refl, (off, tt)));
         world = ap (λ h. record (world_at net s) { holds = h })
-        (fun_ext (λ u. fun_ext (λ r. fun_ext (λ c. release_one (arm_of net) (segment_at net) are.to_segment s.resv t (seg_at line b l.x).0 b l.x.0 segment_there arm_there held u r c (arm_of net r c) refl))));
+            (fun_ext (λ u. fun_ext (λ r. fun_ext (λ c. release_one (arm_of net) (segment_at net) are.to_segment s.resv t (seg_at line b l.x).0 b l.x.0 segment_there arm_there held u r c (arm_of net r c) refl))));
       }

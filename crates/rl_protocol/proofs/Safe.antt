@@ -58,6 +58,7 @@ start_stands net b network = of (slice_get net.boxes b) (λ x h. (network.boxes 
     at_left Buffer side h = sym (ap points_at (h (λ e. cc)))
     at_left Joint side h = sym (ap points_at (h (λ e. cc)))
     at_left Crossing side h = sym (ap points_at (h (λ e. cc)))
+
     of : (o : Option SwitchBox) → ((x : SwitchBox) → o ≡ Some x → x.kind ≢ Point → x.side ≡ Left) → standing (option_map_or (λ (x : SwitchBox). x.kind) o Buffer) (option_map_or (λ (x : SwitchBox). x.side) o Left) ≡ points_at (option_map_or (λ (x : SwitchBox). x.side) o Left)
     of None h = refl
     of (Some x) h = at_left x.kind x.side (h x refl)
@@ -80,12 +81,13 @@ pub record IsFollowed (net : NetworkPlan) (line : Line) (tries : ℕ) (steps : L
   pub world : world_at net (state_after line tries steps) ≡ world_after net (moves_of line steps)
 
 followed_more : (net : NetworkPlan) (line : Line) (tries : ℕ) (steps : List Step) (step : Step) (o : Option Move) → IsFollowed net line tries steps → MovesBy net (world_at net (state_after line tries steps)) (world_at net (state_after line tries (step ∷ steps))) o
-  → GuardedFrom net (start net) (moves_of line steps ++ option_to_list o) × (world_at net (state_after line tries (step ∷ steps)) ≡ fold after (start net) (moves_of line steps ++ option_to_list o))
+    → GuardedFrom net (start net) (moves_of line steps ++ option_to_list o) × (world_at net (state_after line tries (step ∷ steps)) ≡ fold after (start net) (moves_of line steps ++ option_to_list o))
 followed_more net line tries steps step None before by =
     (subst (GuardedFrom net (start net)) (sym (append-nil (moves_of line steps))) before.guarded, by ∙ before.world ∙ ap (fold after (start net)) (sym (append-nil (moves_of line steps))))
-followed_more net line tries steps step (Some m) before by =
-    (guarded_more net (start net) (moves_of line steps) m before.guarded (subst (λ w. AllHold (guards net w m)) before.world by.guarded),
-    by.world ∙ ap (λ w. after w m) before.world ∙ sym (fold-append after (start net) (moves_of line steps) (m ∷ [])))
+followed_more net line tries steps step (Some m) before by = (
+  guarded_more net (start net) (moves_of line steps) m before.guarded (subst (λ w. AllHold (guards net w m)) before.world by.guarded),
+  by.world ∙ ap (λ w. after w m) before.world ∙ sym (fold-append after (start net) (moves_of line steps) (m ∷ [])),
+)
 
 pub followed : (net : NetworkPlan) (line : Line) (tries : ℕ) (steps : List Step) → IsRailway net line → IsRun line tries steps → IsFollowed net line tries steps
 followed net line tries [] is run = record { guarded = tt; world = start_world net line tries is }

@@ -99,6 +99,7 @@ module _ (line : Line) (tries : ℕ) (s : State) (laws : IsConsistent line) (agr
     where
       mine : is_held_by t (s.resv b l.x.0) ≡ false
       mine = by_job l.x.0 ∙ subst (λ c. job_holds line t (s.trains t) c l.x.0 ≡ false) has.to (reserves_new line t (s.trains t) l laws within has.letter verb)
+
       of : (o : Option TrainId) → s.resv b l.x.0 ≡ o → HasStep line s (nodes.Box (box b)) (words.Resv (box b))
       of None is = record { step = grant b t l; fits = (serves, verb, is); by_node = refl; on_word = refl }
       of (Some u) is = record { step = refuse b t l u; fits = (serves, verb, is, other_holder t (s.resv b l.x.0) u mine is); by_node = refl; on_word = refl }
@@ -137,6 +138,7 @@ module _ (line : Line) (tries : ℕ) (s : State) (laws : IsConsistent line) (agr
           (stems l.x.0 l.y.0 p.x.0 p.y.0
           (subst (λ k. can_join k l.x.0 l.y.0 ≡ true) point (joined_at (s.trains t) t l.x.0 l.y.0 (own verb)))
           (subst (λ k. can_join k p.x.0 p.y.0 ≡ true) point (joined_at (s.trains p.train.0) p.train.0 p.x.0 p.y.0 path)))
+
       of : (o : Option Path) → (s.boxes b).waiting ≡ o → o ≡ None
       of None is = refl
       of (Some p) is = absurd (meet p is)
@@ -149,14 +151,17 @@ module _ (line : Line) (tries : ℕ) (s : State) (laws : IsConsistent line) (agr
     where
       mind : s.boxes b ≡ serving t l
       mind = mind_is (no_points verb)
+
       side_of : (side : Side) → s.lock b ≡ Free side → (c : Bool) → arms_join (line.kind b) l.x.0 l.y.0 side ≡ c → HasStep line s (nodes.Box (box b)) (words.Lock (box b))
       side_of side is true h = record { step = lock_now b t l side; fits = (mind, verb, is, h); by_node = refl; on_word = refl }
       side_of side is false h = record { step = lock_ask b t l side; fits = (mind, verb, is, h, turned (line.kind b) l.x.0 l.y.0 side h (joined_at (s.trains t) t l.x.0 l.y.0 (own verb))); by_node = refl; on_word = refl }
+
       not_mine : (p : Path) → s.lock b ≡ Locked p → p.train.0 ≢ t
       not_mine p is = λ e.
           both_ways (is_locked_by (s.lock b) t p.x.0 p.y.0)
           (by_job_locked p.x.0 p.y.0 ∙ (asks_lock (row_of line t (s.trains t)) (s.trains t).job l has.letter verb).unlocked b p.x.0 p.y.0)
           (ap (λ w. is_locked_by w t p.x.0 p.y.0) is ∙ and_from _ _ (and_from _ _ (eq-eqb p.train.0 t e) (eq-eqb p.x.0 p.x.0 refl)) (eq-eqb p.y.0 p.y.0 refl))
+
       of : (w : LockWord) → s.lock b ≡ w → path_in_setting (s.lock b) ≡ None → HasStep line s (nodes.Box (box b)) (words.Lock (box b))
       of (Free side) is none = side_of side is (arms_join (line.kind b) l.x.0 l.y.0 side) refl
       of (Asked p) is none = absurd (cc)

@@ -57,6 +57,7 @@ weighed_most full w left rank1 tries h most within =
   where
     split : (m n : ℕ) → n ≤ m → m ≡ n + (m - n)
     split m n h = omega arith
+
     distribute : (m n k : ℕ) → m * (n + k) ≡ m * n + m * k
     distribute m n k = omega arith
 
