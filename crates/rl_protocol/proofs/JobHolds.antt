@@ -10,7 +10,7 @@ use Rattle.rl_tables.specs.declared.table.StepRow.{StepRow}
 use Rattle.rl_train.specs.declared.mind.TrainMind.{TrainMind}
 use Rattle.rl_protocol.specs.Line.{Line, at, IsStepOf, IsConsistent}
 use Rattle.rl_protocol.specs.Jobs.{letter_at, passes, holds_at, locks_at, job_after_yes, job_after_no, finishes}
-use Rattle.rl_protocol.specs.Steps.{row_of, letter_of, heard}
+use Rattle.rl_protocol.specs.Minds.{row_of, letter_of, heard}
 use Rattle.rl_protocol.specs.Held.{held_after, locked_after, job_holds, job_locks}
 
 -- the same at the row of the step, for each job

@@ -13,7 +13,7 @@ use Rattle.rl_tables.specs.Kept.{can_join}
 use Rattle.rl_protocol.specs.Line.{Line, at, IsStepOf, IsConsistent}
 use Rattle.rl_train.specs.declared.mind.TrainMind.{TrainMind}
 use Rattle.rl_protocol.specs.Jobs.{letter_at, has_passed, holds_at, locks_at, begins, passes}
-use Rattle.rl_protocol.specs.Steps.{row_of, letter_of}
+use Rattle.rl_protocol.specs.Minds.{row_of, letter_of}
 use Rattle.rl_protocol.specs.Held.{job_holds}
 use Rattle.rl_protocol.specs.Agreement.{place_of}
 

@@ -33,7 +33,9 @@ use Rattle.rl_words.specs.Mail.{IsRefusable}
 use Rattle.rl_protocol.specs.Line.{Line, at, is_held_by, IsConsistent}
 use Rattle.rl_protocol.specs.Jobs.{passes}
 use Rattle.rl_protocol.specs.State.{State, put}
-use Rattle.rl_protocol.specs.Steps.{Step, post, hear_yes, hear_no, go, quiet, take, grant, refuse, release, lock_now, lock_ask, lock_moved, unlock, say_yes, say_no, busy, throw, settle, enter, head, leave, tail, Fits, next, move_of, refusal_of, train, box, seg_at, row_of, path_of, letter_of_path, other_side}
+use Rattle.rl_protocol.specs.Minds.{train, box, row_of, path_of, letter_of_path, other_side}
+use Rattle.rl_protocol.specs.Steps.{Step, post, hear_yes, hear_no, go, quiet, take, grant, refuse, release, lock_now, lock_ask, lock_moved, unlock, say_yes, say_no, busy, throw, settle, enter, head, leave, tail, Fits, next}
+use Rattle.rl_protocol.specs.StepMoves.{move_of, refusal_of, seg_at}
 use Rattle.rl_protocol.specs.Held.{has_done_for, done_in, held_with, locked_with, holds, has_lock, job_holds, job_locks}
 use Rattle.rl_protocol.specs.Agreement.{Agrees, AgreesOnPassage, is_passing, is_under_way, place_of, is_locked_by, path_in_setting, lock_holder, HasWhatIsAsked}
 use Rattle.rl_protocol.specs.Worlds.{is_number, same_number, IsLineOf, stands_on, is_across, steps_made, locks, standing, side_of_path, points_in, world_at}

@@ -8,10 +8,11 @@ use Rattle.rl_model.specs.declared.moves.Move.{Move}
 use Rattle.rl_model.specs.Reports.{is_refusal, refused_in}
 use Rattle.rl_protocol.specs.Line.{Line, IsConsistent}
 use Rattle.rl_protocol.specs.State.{State}
-use Rattle.rl_protocol.specs.Steps.{Step, Fits, next, move_of}
+use Rattle.rl_protocol.specs.Steps.{Step, Fits, next}
+use Rattle.rl_protocol.specs.StepMoves.{move_of}
 use Rattle.rl_protocol.specs.Runs.{state_after, IsRun, moves_of}
 use Rattle.rl_protocol.specs.Agreement.{Agrees}
-use Rattle.rl_protocol.specs.Outlook.{refusals_said}
+use Rattle.rl_protocol.specs.Refusals.{refusals_said}
 use Rattle.rl_protocol.proofs.Known.{Known}
 use Rattle.rl_protocol.proofs.Agreed.{agrees, known_of}
 

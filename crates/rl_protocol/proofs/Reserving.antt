@@ -15,7 +15,9 @@ use Rattle.rl_model.specs.declared.moves.Move.TheVariants as moves
 use Rattle.rl_words.specs.declared.mail.Letter.{Letter}
 use Rattle.rl_protocol.specs.Line.{Line, is_held_by}
 use Rattle.rl_protocol.specs.State.{State, put_at}
-use Rattle.rl_protocol.specs.Steps.{Step, grant, release, next, train, box, seg_at}
+use Rattle.rl_protocol.specs.Minds.{train, box}
+use Rattle.rl_protocol.specs.Steps.{Step, grant, release, next}
+use Rattle.rl_protocol.specs.StepMoves.{seg_at}
 use Rattle.rl_protocol.specs.Worlds.{IsLineOf, world_at}
 use Rattle.rl_protocol.proofs.Places.{ArePlaced}
 

@@ -18,11 +18,11 @@ use Rattle.rl_words.specs.declared.run.RunWord.TheVariants.{Clear}
 use Rattle.rl_protocol.specs.Line.{Line, is_held_by, IsConsistent}
 use Rattle.rl_protocol.specs.Jobs.{begins, passes}
 use Rattle.rl_protocol.specs.State.{State}
-use Rattle.rl_protocol.specs.Steps.{at_rest, row_of}
+use Rattle.rl_protocol.specs.Minds.{at_rest, row_of}
 use Rattle.rl_protocol.specs.Held.{has_done_for, done_in, held_with, locked_with, holds, has_lock, job_holds, job_locks}
 use Rattle.rl_protocol.specs.Agreement.{Agrees, is_locked_by, place_of}
 use Rattle.rl_protocol.specs.Worlds.{is_number, same_number, IsLineOf, IsRailway, stands_on, is_across, locks, world_at}
-use Rattle.rl_protocol.specs.Outlook.{AllRest, IsAtRest}
+use Rattle.rl_protocol.specs.Rest.{AllRest, IsAtRest}
 use Rattle.rl_protocol.proofs.Jobs.{beginning_holds, beginning_unlocked, beginning_place}
 use Rattle.rl_protocol.proofs.Places.{ArePlaced, placed}
 use Rattle.rl_protocol.proofs.Reserving.{held_at}

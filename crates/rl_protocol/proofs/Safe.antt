@@ -22,7 +22,8 @@ use Rattle.rl_model.proofs.Kept.{safe_run}
 use Rattle.rl_protocol.specs.Line.{Line, is_held_by, IsConsistent}
 use Rattle.rl_protocol.specs.State.{State}
 use Rattle.rl_protocol.specs.State.{start as start_state}
-use Rattle.rl_protocol.specs.Steps.{Step, Fits, next, move_of}
+use Rattle.rl_protocol.specs.Steps.{Step, Fits, next}
+use Rattle.rl_protocol.specs.StepMoves.{move_of}
 use Rattle.rl_protocol.specs.Runs.{state_after, IsRun, moves_of}
 use Rattle.rl_protocol.specs.Agreement.{Agrees}
 use Rattle.rl_protocol.specs.Worlds.{is_number, same_number, IsLineOf, IsRailway, standing, world_at}

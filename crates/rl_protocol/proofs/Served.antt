@@ -29,10 +29,11 @@ use Rattle.rl_box.specs.declared.mind.Work.{Work}
 use Rattle.rl_box.specs.declared.mind.Work.TheVariants.{Ready, Serve, Say}
 use Rattle.rl_protocol.specs.Line.{Line, at, is_held_by, IsConsistent}
 use Rattle.rl_protocol.specs.State.{State}
-use Rattle.rl_protocol.specs.Steps.{Step, grant, refuse, release, lock_now, lock_ask, unlock, say_yes, say_no, busy, Fits, train, box, path_of, letter_of_path, row_of, other_side, serving}
+use Rattle.rl_protocol.specs.Minds.{train, box, path_of, letter_of_path, row_of, other_side, serving}
+use Rattle.rl_protocol.specs.Steps.{Step, grant, refuse, release, lock_now, lock_ask, unlock, say_yes, say_no, busy, Fits}
 use Rattle.rl_protocol.specs.Held.{is_path_of, held_with, locked_with, done_letter, holds, has_lock, job_holds, job_locks}
 use Rattle.rl_protocol.specs.Agreement.{Agrees, is_locked_by, path_in_setting, HasWhatIsAsked}
-use Rattle.rl_protocol.specs.Outlook.{HasStep, word_for, word_at_work}
+use Rattle.rl_protocol.specs.AtWork.{HasStep, word_for, word_at_work}
 use Rattle.rl_protocol.proofs.Known.{HasTaken, taken, taken_path}
 use Rattle.rl_protocol.proofs.Letters.{asks_lock, asks_unlock, reserves_new, releases_old}
 use Rattle.rl_protocol.proofs.Sides.{has_side}

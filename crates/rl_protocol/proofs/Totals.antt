@@ -13,7 +13,9 @@ use Rattle.rl_model.specs.declared.moves.Move.{Move}
 use Rattle.rl_words.specs.declared.mail.Letter.{Letter}
 use Rattle.rl_protocol.specs.Line.{Line, IsConsistent}
 use Rattle.rl_protocol.specs.State.{State}
-use Rattle.rl_protocol.specs.Steps.{Step, post, hear_yes, hear_no, go, quiet, take, grant, refuse, release, lock_now, lock_ask, lock_moved, unlock, say_yes, say_no, busy, throw, settle, enter, head, leave, tail, Fits, next, node_of, move_of, refusal_of}
+use Rattle.rl_protocol.specs.Steps.{Step, post, hear_yes, hear_no, go, quiet, take, grant, refuse, release, lock_now, lock_ask, lock_moved, unlock, say_yes, say_no, busy, throw, settle, enter, head, leave, tail, Fits, next}
+use Rattle.rl_protocol.specs.StepMoves.{move_of, refusal_of}
+use Rattle.rl_protocol.specs.Nodes.{node_of}
 use Rattle.rl_protocol.specs.Runs.{state_after, IsRun, moves_of}
 use Rattle.rl_protocol.specs.Agreement.{Agrees, is_under_way}
 use Rattle.rl_protocol.specs.Counts.{same_node, events_of, attempts_posted}

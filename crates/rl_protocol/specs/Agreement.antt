@@ -25,7 +25,7 @@ use Rattle.rl_track.specs.declared.track.TrackPhase.TheVariants.{Watch, HeadDue,
 use Rattle.rl_protocol.specs.Line.{Line, is_held_by}
 use Rattle.rl_protocol.specs.Jobs.{passes, begins, has_passed, is_open}
 use Rattle.rl_protocol.specs.State.{State}
-use Rattle.rl_protocol.specs.Steps.{letter_of, letter_of_path}
+use Rattle.rl_protocol.specs.Minds.{letter_of, letter_of_path}
 use Rattle.rl_protocol.specs.Held.{holds, has_lock}
 
 -- 1. Reservations. The reservation words say exactly what the trains hold, and arms that aren't there are free

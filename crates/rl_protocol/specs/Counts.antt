@@ -4,7 +4,8 @@ use Rattle.rl_base.specs.declared.layout.NodeKind.{NodeKind}
 use Rattle.rl_base.specs.declared.layout.NodeKind.TheVariants.{Train, Track, Box, Machine}
 use Rattle.rl_protocol.specs.Line.{Line}
 use Rattle.rl_protocol.specs.State.{State}
-use Rattle.rl_protocol.specs.Steps.{Step, node_of}
+use Rattle.rl_protocol.specs.Steps.{Step}
+use Rattle.rl_protocol.specs.Nodes.{node_of}
 
 -- only trains below this number have steps to make
 abbrev pub HasTrains : Line → ℕ → Type 0

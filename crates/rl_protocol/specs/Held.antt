@@ -16,7 +16,7 @@ use Rattle.rl_box.specs.declared.mind.Work.TheVariants.{Ready, Serve, Say}
 use Rattle.rl_protocol.specs.Line.{Line, at}
 use Rattle.rl_protocol.specs.Jobs.{holds_at, locks_at}
 use Rattle.rl_protocol.specs.State.{State}
-use Rattle.rl_protocol.specs.Steps.{row_of}
+use Rattle.rl_protocol.specs.Minds.{row_of}
 
 -- a box has done what train t asked for where it is about to answer Yes to it, and where it has set its lock and waits
 -- for the points

@@ -10,12 +10,16 @@ ghost use Rattle.rl_model.specs.Safety.{IsSafeRun, world_after};
 ghost use Rattle.rl_model.specs.Reports.{refused_in, Rests};
 ghost use Rattle.rl_protocol.specs.Line.{Line, IsConsistent};
 ghost use Rattle.rl_protocol.specs.State.{State, start};
-ghost use Rattle.rl_protocol.specs.Steps.{Step, Fits, next, move_of, box, at_rest};
+ghost use Rattle.rl_protocol.specs.Minds.{box, at_rest};
+ghost use Rattle.rl_protocol.specs.Steps.{Step, Fits, next};
+ghost use Rattle.rl_protocol.specs.StepMoves.{move_of};
 ghost use Rattle.rl_protocol.specs.Runs.{state_after, IsRun, moves_of};
 ghost use Rattle.rl_protocol.specs.Agreement.{Agrees};
 ghost use Rattle.rl_protocol.specs.Worlds.{IsRailway, world_at};
 ghost use Rattle.rl_protocol.specs.Counts.{HasTrains, events_of, attempts_posted};
-ghost use Rattle.rl_protocol.specs.Outlook.{refusals_said, HasStep, word_at_work, AllRest, IsAtRest};
+ghost use Rattle.rl_protocol.specs.Refusals.{refusals_said};
+ghost use Rattle.rl_protocol.specs.AtWork.{HasStep, word_at_work};
+ghost use Rattle.rl_protocol.specs.Rest.{AllRest, IsAtRest};
 
 /// Minds and words agree in every state that a run of steps leaves, whatever the nodes and their order.
 pub fn agreement()
