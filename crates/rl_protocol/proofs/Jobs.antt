@@ -11,7 +11,8 @@ use Rattle.rl_train.specs.Mind.{start_train}
 use Rattle.rl_protocol.specs.Line.{Line}
 use Rattle.rl_protocol.specs.State.{start}
 use Rattle.rl_protocol.specs.Jobs.{letter_at, passes, has_passed, job_after_yes, job_after_no, finishes, begins, is_open, holds_at, locks_at}
-use Rattle.rl_protocol.specs.Minds.{row_of, heard, denied, passed}
+use Rattle.rl_train.specs.Steps.{denied}
+use Rattle.rl_protocol.specs.Minds.{row_of, heard, passed}
 use Rattle.rl_protocol.specs.Agreement.{place_of, open_attempts, IsStanding}
 
 -- a job with a letter isn't Pass

@@ -25,7 +25,8 @@ use Rattle.rl_words.specs.declared.lock.LockWord.TheVariants.{Free, Asked, Movin
 use Rattle.rl_words.specs.declared.lock.Path.{Path}
 use Rattle.rl_protocol.specs.Line.{Line, is_held_by}
 use Rattle.rl_protocol.specs.State.{State, put}
-use Rattle.rl_protocol.specs.Minds.{box, other_side}
+use Rattle.rl_box.specs.Steps.{other_side}
+use Rattle.rl_protocol.specs.Minds.{box}
 use Rattle.rl_protocol.specs.StepMoves.{seg_at}
 use Rattle.rl_protocol.specs.Worlds.{is_number, is_passage, locks, standing, moving, side_of_path, points_in, world_at}
 use Rattle.rl_protocol.proofs.Places.{ArePlaced}

@@ -33,7 +33,8 @@ use Rattle.rl_words.specs.Mail.{IsRefusable}
 use Rattle.rl_protocol.specs.Line.{Line, at, is_held_by, IsConsistent}
 use Rattle.rl_protocol.specs.Jobs.{passes}
 use Rattle.rl_protocol.specs.State.{State, put}
-use Rattle.rl_protocol.specs.Minds.{train, box, row_of, path_of, letter_of_path, other_side}
+use Rattle.rl_box.specs.Steps.{path_of, other_side}
+use Rattle.rl_protocol.specs.Minds.{train, box, row_of, letter_of_path}
 use Rattle.rl_protocol.specs.Steps.{Step, post, hear_yes, hear_no, go, quiet, take, grant, refuse, release, lock_now, lock_ask, lock_moved, unlock, say_yes, say_no, busy, throw, settle, enter, head, leave, tail, Fits, next}
 use Rattle.rl_protocol.specs.StepMoves.{move_of, refusal_of, seg_at}
 use Rattle.rl_protocol.specs.Held.{has_done_for, done_in, held_with, locked_with, holds, has_lock, job_holds, job_locks}
@@ -192,14 +193,14 @@ module _ (net : NetworkPlan) (line : Line) (tries : ℕ) (s : State) (network : 
       ∙ set_connects net row.b.0 row.s.0 row.s2.0 row.x.0 row.y.0 side.0 (are.to_arm _ _ _ (row_from t k within)) (are.to_arm _ _ _ (row_to t k within)) side.2
 
   -- the path of a letter in hand
-  asked_at : (b t : ℕ) (l : Letter) → HasTaken line s b t l → l.verb ≡ verbs.Lock → IsPathAt net line b (path_of t l)
+  asked_at : (b t : ℕ) (l : Letter) → HasTaken line s b t l → l.verb ≡ verbs.Lock → IsPathAt net line b (path_of (train t) l)
   asked_at b t l has verb =
-      path_at net line t (s.trains t) b (path_of t l) laws of
+      path_at net line t (s.trains t) b (path_of (train t) l) laws of
       (subst (λ z. IsOwnPath line t (s.trains t) z l.x.0 l.y.0) has.to (lock_path line tries s t l agrees has.waits has.letter verb))
 
-  unlocked_at : (b t : ℕ) (l : Letter) → HasTaken line s b t l → l.verb ≡ verbs.Unlock → IsPathAt net line b (path_of t l)
+  unlocked_at : (b t : ℕ) (l : Letter) → HasTaken line s b t l → l.verb ≡ verbs.Unlock → IsPathAt net line b (path_of (train t) l)
   unlocked_at b t l has verb =
-      path_at net line t (s.trains t) b (path_of t l) laws of
+      path_at net line t (s.trains t) b (path_of (train t) l) laws of
       (subst (λ z. IsOwnPath line t (s.trains t) z l.x.0 l.y.0) has.to (unlock_path line tries s t l agrees has.waits has.letter verb))
 
   -- the path of a lock
@@ -215,18 +216,18 @@ module _ (net : NetworkPlan) (line : Line) (tries : ℕ) (s : State) (network : 
   lock_now_moves : (b t : ℕ) (l : Letter) (side : Side) → Fits line s (lock_now b t l side) → HasTaken line s b t l → IsMove net (world_at net s) (world_at net (next line s (lock_now b t l side))) (moves.Lock (train t) (box b) (seg_at line b l.x) (seg_at line b l.y))
   lock_now_moves b t l side fits has =
       let held = lock_held line tries s b t l laws agrees has fits.1 in
-      lock_moves net line s b (path_of t l) are (asked_at b t l has fits.1) side (Locked (path_of t l)) fits.2 held.0 held.1 (λ u f g. refl)
+      lock_moves net line s b (path_of (train t) l) are (asked_at b t l has fits.1) side (Locked (path_of (train t) l)) fits.2 held.0 held.1 (λ u f g. refl)
       (stands_now (kind_of net b) l.x.0 l.y.0 side (joins_net b l.x.0 l.y.0 side true fits.3))
 
   lock_ask_moves : (b t : ℕ) (l : Letter) (side : Side) → Fits line s (lock_ask b t l side) → HasTaken line s b t l → IsMove net (world_at net s) (world_at net (next line s (lock_ask b t l side))) (moves.Lock (train t) (box b) (seg_at line b l.x) (seg_at line b l.y))
   lock_ask_moves b t l side fits has =
       let held = lock_held line tries s b t l laws agrees has fits.1 in
-      lock_moves net line s b (path_of t l) are (asked_at b t l has fits.1) side (Asked (path_of t l)) fits.2 held.0 held.1 (λ u f g. refl)
+      lock_moves net line s b (path_of (train t) l) are (asked_at b t l has fits.1) side (Asked (path_of (train t) l)) fits.2 held.0 held.1 (λ u f g. refl)
       (stands_asked (kind_of net b) l.x.0 l.y.0 side (joins_net b l.x.0 l.y.0 side false fits.3) (joins_net b l.x.0 l.y.0 (other_side side) true fits.4))
 
   unlock_step_moves : (b t : ℕ) (l : Letter) (side : Side) → Fits line s (unlock b t l side) → HasTaken line s b t l → IsMove net (world_at net s) (world_at net (next line s (unlock b t l side))) (moves.Unlock (train t) (box b))
   unlock_step_moves b t l side fits has =
-      unlock_moves net line s b (path_of t l) are (unlocked_at b t l has fits.1) side fits.2
+      unlock_moves net line s b (path_of (train t) l) are (unlocked_at b t l has fits.1) side fits.2
       (ap (λ k. joining_side k l.x.0 l.y.0) (sym (of.kind b)) ∙ fits.3)
       (λ c f g. ap (λ v. is_across (route_segment net t) (route_box net t) v c f g) (asks_standing t has.active))
 

@@ -13,7 +13,8 @@ use Rattle.rl_words.specs.declared.mail.Letter.{Letter}
 use Rattle.rl_words.specs.declared.mail.MailWord.TheVariants.{Empty, Ask, Taken, Yes, No}
 use Rattle.rl_protocol.specs.Line.{Line, at, is_held_by, IsConsistent}
 use Rattle.rl_protocol.specs.State.{State}
-use Rattle.rl_protocol.specs.Minds.{row_of, letter_of, letter_of_path, path_of}
+use Rattle.rl_box.specs.Steps.{path_of}
+use Rattle.rl_protocol.specs.Minds.{row_of, letter_of, letter_of_path, train}
 use Rattle.rl_protocol.specs.Held.{done_letter, holds, has_lock, job_holds, job_locks, locked_after, locked_with}
 use Rattle.rl_protocol.specs.Agreement.{Agrees, is_under_way, is_locked_by}
 use Rattle.rl_protocol.specs.Worlds.{IsLineOf}

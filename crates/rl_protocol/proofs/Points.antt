@@ -9,7 +9,7 @@ use Rattle.rl_base.specs.Kind.{arms_join}
 use Rattle.rl_words.specs.declared.lock.Path.{Path}
 use Rattle.rl_protocol.specs.Line.{Line}
 use Rattle.rl_protocol.specs.State.{State}
-use Rattle.rl_protocol.specs.Minds.{other_side}
+use Rattle.rl_box.specs.Steps.{other_side}
 use Rattle.rl_protocol.specs.Steps.{Step, Fits, next}
 use Rattle.rl_protocol.specs.Agreement.{path_in_setting}
 use Rattle.rl_protocol.proofs.Known.{Known}

@@ -29,7 +29,8 @@ use Rattle.rl_box.specs.declared.mind.Work.{Work}
 use Rattle.rl_box.specs.declared.mind.Work.TheVariants.{Ready, Serve, Say}
 use Rattle.rl_protocol.specs.Line.{Line, at, is_held_by, IsConsistent}
 use Rattle.rl_protocol.specs.State.{State}
-use Rattle.rl_protocol.specs.Minds.{train, box, path_of, letter_of_path, row_of, other_side, serving}
+use Rattle.rl_box.specs.Steps.{path_of, other_side}
+use Rattle.rl_protocol.specs.Minds.{train, box, letter_of_path, row_of, serving}
 use Rattle.rl_protocol.specs.Steps.{Step, grant, refuse, release, lock_now, lock_ask, unlock, say_yes, say_no, busy, Fits}
 use Rattle.rl_protocol.specs.Held.{is_path_of, held_with, locked_with, done_letter, holds, has_lock, job_holds, job_locks}
 use Rattle.rl_protocol.specs.Agreement.{Agrees, is_locked_by, path_in_setting, HasWhatIsAsked}
@@ -70,7 +71,7 @@ turned kind x y Left h k = sym (ap (λ c. c || arms_join kind x y Right) h) ∙ 
 turned kind x y Right h k = grind (arith, nat_tests)
 
 -- a path by its parts
-path_is : (p : Path) (t : ℕ) (l : Letter) → p.train.0 ≡ t → p.x.0 ≡ l.x.0 → p.y.0 ≡ l.y.0 → p ≡ path_of t l
+path_is : (p : Path) (t : ℕ) (l : Letter) → p.train.0 ≡ t → p.x.0 ≡ l.x.0 → p.y.0 ≡ l.y.0 → p ≡ path_of (train t) l
 path_is p t l e f g = grind arith
 
 module _ (line : Line) (tries : ℕ) (s : State) (laws : IsConsistent line) (agrees : Agrees line tries s) (b t : ℕ) (l : Letter) (serves : (s.boxes b).work ≡ Serve (train t) l) where

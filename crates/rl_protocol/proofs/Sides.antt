@@ -11,7 +11,7 @@ use Rattle.rl_base.specs.Kind.{arms_join, joining_side}
 use Rattle.rl_tables.specs.Kept.{can_join}
 use Rattle.rl_model.specs.declared.moves.Points.TheVariants as points
 use Rattle.rl_model.specs.World.{points_at}
-use Rattle.rl_protocol.specs.Minds.{other_side}
+use Rattle.rl_box.specs.Steps.{other_side}
 use Rattle.rl_protocol.specs.Worlds.{standing, moving}
 
 -- a box connects two different arms

@@ -1,4 +1,4 @@
--- What a step has to say of minds and letters: the letter of a train, its mind after an answer, and a box that serves.
+-- Minds in a step: the letter of a train and its mind after an answer, and a box that serves.
 use Rattle.std.specs.Prelude.{ℕ, ◌+◌, ◌-◌, ◌==◌, Bool, true, false, not, ◌&&◌, ◌||◌, if◌then◌else◌, Option, None}
 use Rattle.rl_base.specs.declared.ids.BoxId.{BoxId}
 use Rattle.rl_base.specs.declared.ids.TrainId.{TrainId}
@@ -14,6 +14,7 @@ use Rattle.rl_tables.specs.declared.table.StepRow.{StepRow}
 use Rattle.rl_train.specs.declared.mind.TrainMind.{TrainMind}
 use Rattle.rl_box.specs.declared.mind.BoxMind.{BoxMind}
 use Rattle.rl_box.specs.declared.mind.Work.TheVariants.{Serve}
+use Rattle.rl_box.specs.Mind.{box_at}
 use Rattle.rl_protocol.specs.Line.{Line}
 use Rattle.rl_protocol.specs.Jobs.{letter_at, job_after_yes, begins, finishes}
 
@@ -24,16 +25,9 @@ train t = record { 0 = t }
 abbrev pub box : ℕ → BoxId
 box b = record { 0 = b }
 
--- the path that a letter about two arms asks for, and the letter that asked for a path
-abbrev pub path_of : ℕ → Letter → Path
-path_of t l = record { train = train t; x = l.x; y = l.y }
-
+-- the letter that asks box b for a path
 abbrev pub letter_of_path : ℕ → Path → Letter
-letter_of_path b p = about_passage (record { 0 = b }) verbs.Lock p.x p.y
-
-abbrev pub other_side : Side → Side
-other_side Left = Right
-other_side Right = Left
+letter_of_path b p = about_passage (box b) verbs.Lock p.x p.y
 
 -- the row of the step at which a train is, and the letter of its job there
 abbrev pub row_of : Line → ℕ → TrainMind → StepRow
@@ -46,16 +40,17 @@ letter_of line t m = letter_at m.job (row_of line t m)
 abbrev pub at_rest : Line → ℕ → TrainMind → Bool
 at_rest line t m = not m.waits && begins m.job && (m.step == line.steps t || m.left == 0)
 
--- the mind after the letter of its job is posted, and after the answers Yes and No
+-- the mind after the letter of its job is posted, and after the answer Yes
 abbrev pub posted : TrainMind → TrainMind
 posted m = record m { waits = true; left = if begins m.job then m.left - 1 else m.left }
 
 abbrev pub heard : Line → ℕ → TrainMind → TrainMind
 heard line t m =
-    record m { waits = false; job = job_after_yes (row_of line t m) m.job; step = if finishes m.job then m.step + 1 else m.step }
-
-abbrev pub denied : Job → TrainMind → TrainMind
-denied job m = record m { waits = false; job = job; refused = m.refused + 1 }
+    record m {
+      waits = false;
+      job = job_after_yes (row_of line t m) m.job;
+      step = if finishes m.job then m.step + 1 else m.step;
+    }
 
 -- and after the passage
 abbrev pub passed : Line → ℕ → TrainMind → TrainMind
@@ -65,6 +60,6 @@ passed line t m = record m { waits = false; job = job_after_yes (row_of line t m
 abbrev pub names_arms : Line → Letter → Bool
 names_arms line l = line.has_arm l.to.0 l.x.0 && line.has_arm l.to.0 l.y.0
 
--- a box that serves a letter and waits for no points
+-- a box that serves the letter of train t and waits for no points
 abbrev pub serving : ℕ → Letter → BoxMind
-serving t l = record { work = Serve (train t) l; waiting = None }
+serving t l = box_at (Serve (train t) l) None

@@ -18,12 +18,17 @@ use Rattle.rl_box.specs.declared.mind.Work.{Work}
 use Rattle.rl_box.specs.declared.mind.BoxMind.{BoxMind}
 use Rattle.rl_box.specs.declared.mind.Work.TheVariants.{Ready, Serve, Say}
 use Rattle.rl_track.specs.declared.track.TrackPhase.TheVariants.{Watch, HeadDue, LeaveDue, TailDue}
+use Rattle.rl_train.specs.Steps.{denied}
+use Rattle.rl_box.specs.Mind.{box_at}
+use Rattle.rl_box.specs.Steps.{path_of, other_side}
+use Rattle.rl_track.specs.Track.{track_at}
 use Rattle.rl_protocol.specs.Line.{Line}
 use Rattle.rl_protocol.specs.Jobs.{job_after_no, passes}
 use Rattle.rl_protocol.specs.State.{State, put, put_at}
-use Rattle.rl_protocol.specs.Minds.{train, path_of, letter_of_path, other_side, row_of, letter_of, at_rest, posted, heard, denied, passed, names_arms, serving}
+use Rattle.rl_protocol.specs.Minds.{train, letter_of_path, row_of, letter_of, at_rest, posted, heard, passed, names_arms, serving}
 
--- t is a train and b a box by its number, l the letter of train t, u the train in the way, p a path, k a step of a route
+-- t is a train and b a box by its number, l the letter of train t, u the train in the way, p a path, and k a step of
+-- the route of train t
 pub data Step : Type 0 where
   post : (t : ℕ) (l : Letter) → Step
   hear_yes : (t : ℕ) (l : Letter) → Step
@@ -51,7 +56,8 @@ pub data Step : Type 0 where
 -- the mind and the word of each step, as the step finds them
 abbrev pub Fits : Line → State → Step → Type 0
 Fits line s (post t l) =
-    ((s.trains t).waits ≡ false) × (at_rest line t (s.trains t) ≡ false) × (letter_of line t (s.trains t) ≡ Some l) × (s.mail t ≡ Empty)
+    ((s.trains t).waits ≡ false) × (at_rest line t (s.trains t) ≡ false)
+    × (letter_of line t (s.trains t) ≡ Some l) × (s.mail t ≡ Empty)
 Fits line s (hear_yes t l) =
     ((s.trains t).waits ≡ true) × (letter_of line t (s.trains t) ≡ Some l) × (s.mail t ≡ Yes l)
 Fits line s (hear_no t l u job) =
@@ -70,14 +76,16 @@ Fits line s (refuse b t l u) =
 Fits line s (release b t l) =
     ((s.boxes b).work ≡ Serve (train t) l) × (l.verb ≡ verbs.Release) × (s.resv b l.x.0 ≡ Some (train t))
 Fits line s (lock_now b t l side) =
-    (s.boxes b ≡ serving t l) × (l.verb ≡ verbs.Lock) × (s.lock b ≡ Free side) × (arms_join (line.kind b) l.x.0 l.y.0 side ≡ true)
+    (s.boxes b ≡ serving t l) × (l.verb ≡ verbs.Lock) × (s.lock b ≡ Free side)
+    × (arms_join (line.kind b) l.x.0 l.y.0 side ≡ true)
 Fits line s (lock_ask b t l side) =
     (s.boxes b ≡ serving t l) × (l.verb ≡ verbs.Lock) × (s.lock b ≡ Free side)
-    × (arms_join (line.kind b) l.x.0 l.y.0 side ≡ false) × (arms_join (line.kind b) l.x.0 l.y.0 (other_side side) ≡ true)
+    × (arms_join (line.kind b) l.x.0 l.y.0 side ≡ false)
+    × (arms_join (line.kind b) l.x.0 l.y.0 (other_side side) ≡ true)
 Fits line s (lock_moved b p) =
-    (s.boxes b ≡ record { work = Ready; waiting = Some p }) × (s.lock b ≡ Moved p)
+    (s.boxes b ≡ box_at Ready (Some p)) × (s.lock b ≡ Moved p)
 Fits line s (unlock b t l side) =
-    (s.boxes b ≡ serving t l) × (l.verb ≡ verbs.Unlock) × (s.lock b ≡ Locked (path_of t l))
+    (s.boxes b ≡ serving t l) × (l.verb ≡ verbs.Unlock) × (s.lock b ≡ Locked (path_of (train t) l))
     × (joining_side (line.kind b) l.x.0 l.y.0 ≡ Some side)
 Fits line s (say_yes b t l) =
     ((s.boxes b).work ≡ Say (train t) l answers.Yes) × (s.mail t ≡ Taken l)
@@ -87,10 +95,10 @@ Fits line s (busy b t l p) =
     (s.boxes b ≡ serving t l) × (l.verb ≡ verbs.Lock) × (s.lock b ≡ Locked p) × (p.train.0 ≢ t)
 Fits line s (throw b p) = s.lock b ≡ Asked p
 Fits line s (settle b p) = s.lock b ≡ Moving p
-Fits line s (enter t k) = (s.tracks t ≡ record { step = k; phase = Watch }) × (s.run t ≡ Go k)
-Fits line s (head t k) = (s.tracks t ≡ record { step = k; phase = HeadDue }) × (s.sense t ≡ Quiet k)
-Fits line s (leave t k) = (s.tracks t ≡ record { step = k; phase = LeaveDue }) × (s.run t ≡ Across k)
-Fits line s (tail t k) = (s.tracks t ≡ record { step = k; phase = TailDue }) × (s.sense t ≡ Head k)
+Fits line s (enter t k) = (s.tracks t ≡ track_at k Watch) × (s.run t ≡ Go k)
+Fits line s (head t k) = (s.tracks t ≡ track_at k HeadDue) × (s.sense t ≡ Quiet k)
+Fits line s (leave t k) = (s.tracks t ≡ track_at k LeaveDue) × (s.run t ≡ Across k)
+Fits line s (tail t k) = (s.tracks t ≡ track_at k TailDue) × (s.sense t ≡ Head k)
 
 -- the box's mind with another work, and what it is once it has an answer to say
 abbrev pub with_work : State → ℕ → Work → ℕ → BoxMind
@@ -102,23 +110,26 @@ saying s b t l answer = with_work s b (Say (train t) l answer)
 -- the state after each step: the mind and the word of its node are as the step leaves them, and all else stays
 abbrev pub next : Line → State → Step → State
 next line s (post t l) = record s { trains = put s.trains t (posted (s.trains t)); mail = put s.mail t (Ask l) }
-next line s (hear_yes t l) = record s { trains = put s.trains t (heard line t (s.trains t)); mail = put s.mail t Empty }
-next line s (hear_no t l u job) = record s { trains = put s.trains t (denied job (s.trains t)); mail = put s.mail t Empty }
+next line s (hear_yes t l) =
+    record s { trains = put s.trains t (heard line t (s.trains t)); mail = put s.mail t Empty }
+next line s (hear_no t l u job) =
+    record s { trains = put s.trains t (denied job (s.trains t)); mail = put s.mail t Empty }
 next line s (go t) =
     record s { trains = put s.trains t (record (s.trains t) { waits = true }); run = put s.run t (Go (s.trains t).step) }
 next line s (quiet t) =
     record s { trains = put s.trains t (passed line t (s.trains t)); sense = put s.sense t (Quiet ((s.trains t).step + 1)) }
 next line s (take b t l) = record s { boxes = with_work s b (Serve (train t) l); mail = put s.mail t (Taken l) }
-next line s (grant b t l) = record s { boxes = saying s b t l answers.Yes; resv = put_at s.resv b l.x.0 (Some (train t)) }
+next line s (grant b t l) =
+    record s { boxes = saying s b t l answers.Yes; resv = put_at s.resv b l.x.0 (Some (train t)) }
 next line s (refuse b t l u) = record s { boxes = saying s b t l (answers.No u) }
 next line s (release b t l) = record s { boxes = saying s b t l answers.Yes; resv = put_at s.resv b l.x.0 None }
 next line s (lock_now b t l side) =
-    record s { boxes = saying s b t l answers.Yes; lock = put s.lock b (Locked (path_of t l)) }
+    record s { boxes = saying s b t l answers.Yes; lock = put s.lock b (Locked (path_of (train t) l)) }
 next line s (lock_ask b t l side) =
-    record s { boxes = put s.boxes b (record { work = Ready; waiting = Some (path_of t l) }); lock = put s.lock b (Asked (path_of t l)) }
+    let p = path_of (train t) l in record s { boxes = put s.boxes b (box_at Ready (Some p)); lock = put s.lock b (Asked p) }
 next line s (lock_moved b p) =
     record s {
-      boxes = put s.boxes b (record { work = Say p.train (letter_of_path b p) answers.Yes; waiting = None });
+      boxes = put s.boxes b (box_at (Say p.train (letter_of_path b p) answers.Yes) None);
       lock = put s.lock b (Locked p);
     }
 next line s (unlock b t l side) = record s { boxes = saying s b t l answers.Yes; lock = put s.lock b (Free side) }
@@ -127,7 +138,7 @@ next line s (say_no b t l u) = record s { boxes = with_work s b Ready; mail = pu
 next line s (busy b t l p) = record s { boxes = saying s b t l (answers.No p.train) }
 next line s (throw b p) = record s { lock = put s.lock b (Moving p) }
 next line s (settle b p) = record s { lock = put s.lock b (Moved p) }
-next line s (enter t k) = record s { tracks = put s.tracks t (record { step = k; phase = HeadDue }); run = put s.run t (Across k) }
-next line s (head t k) = record s { tracks = put s.tracks t (record { step = k; phase = LeaveDue }); sense = put s.sense t (Head k) }
-next line s (leave t k) = record s { tracks = put s.tracks t (record { step = k; phase = TailDue }); run = put s.run t (Clear (k + 1)) }
-next line s (tail t k) = record s { tracks = put s.tracks t (record { step = k + 1; phase = Watch }); sense = put s.sense t (Tail k) }
+next line s (enter t k) = record s { tracks = put s.tracks t (track_at k HeadDue); run = put s.run t (Across k) }
+next line s (head t k) = record s { tracks = put s.tracks t (track_at k LeaveDue); sense = put s.sense t (Head k) }
+next line s (leave t k) = record s { tracks = put s.tracks t (track_at k TailDue); run = put s.run t (Clear (k + 1)) }
+next line s (tail t k) = record s { tracks = put s.tracks t (track_at (k + 1) Watch); sense = put s.sense t (Tail k) }
