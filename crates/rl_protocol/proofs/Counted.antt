@@ -1,21 +1,20 @@
 -- Each step adds its weight to the rank of the train that it is about, or opens an attempt.
-use Rattle.std.proofs.Common.{◌≡◌, ◌≢◌, ℕ, ◌+◌, ◌-◌, ◌*◌, ◌<◌, ◌≤◌, ◌==◌, Bool, true, false, cond, if◌then◌else◌, not, ◌&&◌, ◌||◌, Option, Some, None, refl, sym, ap, ◌∙◌, subst, inl, inr, ◌⊎◌, ⊎_elim, arith}
+use Rattle.std.proofs.Common.{◌≡◌, ℕ, ◌+◌, ◌≤◌, ◌==◌, Bool, true, false, cond, if◌then◌else◌, ◌&&◌, refl, sym, ap, ◌∙◌, inl, inr, ◌⊎◌, ⊎_elim, arith}
 use Rattle.std.proofs.lemmas.Bool.{cases_Bool}
 use Rattle.std.proofs.lemmas.Bool.Decides.{nat_tests}
 use Rattle.rl_base.specs.declared.ids.TrainId.{TrainId}
 use Rattle.rl_words.specs.declared.mail.Letter.{Letter}
 use Rattle.rl_words.specs.declared.mail.MailWord.{MailWord}
 use Rattle.rl_words.specs.declared.mail.MailWord.TheVariants.{Empty, Ask, Taken, Yes, No}
-use Rattle.rl_train.specs.declared.mind.TrainMind.{TrainMind}
 use Rattle.rl_protocol.specs.Line.{Line}
 use Rattle.rl_protocol.specs.Jobs.{begins, passes}
 use Rattle.rl_protocol.specs.State.{State}
 use Rattle.rl_protocol.specs.Minds.{letter_of_path}
 use Rattle.rl_protocol.specs.Steps.{Step, post, hear_yes, hear_no, go, quiet, take, grant, refuse, release, lock_now, lock_ask, lock_moved, unlock, say_yes, say_no, busy, throw, settle, enter, head, leave, tail, Fits, next}
-use Rattle.rl_protocol.specs.Agreement.{Agrees, AgreesOnPassage, AgreesOnAttempts, Carries}
+use Rattle.rl_protocol.specs.Agreement.{Agrees, AgreesOnPassage, Carries}
 use Rattle.rl_protocol.proofs.Known.{Known}
 use Rattle.rl_protocol.proofs.Jobs.{begins_passes, letter_there}
-use Rattle.rl_protocol.proofs.Ranks.{Weights, weight, about, attempt_weight, rank, rank_heard, rank_denied, rank_passed, rank_opened, job_rank, ready_rank, mail_rank, run_rank, box_rank, letter_weight, verb_weight, rank_ready, rank_asking, rank_passing, run_bounded, box_bounded}
+use Rattle.rl_protocol.proofs.Ranks.{Weights, weight, about, attempt_weight, rank, rank_heard, rank_denied, rank_passed, job_rank, ready_rank, mail_rank, run_rank, box_rank, letter_weight, verb_weight, rank_ready, rank_asking, rank_passing, run_bounded, box_bounded}
 
 -- a post with which an attempt of train t begins
 abbrev pub opens : State → ℕ → Step → Bool

@@ -1,7 +1,6 @@
 -- Laws of the job table. Only here does a proof look at a job.
-use Rattle.std.proofs.Common.{◌≡◌, ◌≢◌, ℕ, ◌+◌, ◌-◌, ◌<◌, ◌==◌, Bool, true, false, cond, not, ◌&&◌, ◌||◌, Option, Some, None, refl, sym, ap, ◌∙◌, subst, ◌⊎◌, inl, inr, arith}
+use Rattle.std.proofs.Common.{◌≡◌, ℕ, ◌+◌, Bool, true, false, cond, not, Some, refl, sym, arith}
 use Rattle.std.proofs.lemmas.Bool.{false≢true}
-use Rattle.std.proofs.lemmas.Bool.Decides.{nat_tests}
 use Rattle.rl_base.specs.declared.job.Job.{Job}
 use Rattle.rl_base.specs.declared.job.Job.TheVariants as jobs
 use Rattle.rl_words.specs.declared.mail.Letter.{Letter}
@@ -11,8 +10,7 @@ use Rattle.rl_train.specs.Mind.{start_train}
 use Rattle.rl_protocol.specs.Line.{Line}
 use Rattle.rl_protocol.specs.State.{start}
 use Rattle.rl_protocol.specs.Jobs.{letter_at, passes, has_passed, job_after_yes, job_after_no, finishes, begins, is_open, holds_at, locks_at}
-use Rattle.rl_train.specs.Steps.{denied}
-use Rattle.rl_protocol.specs.Minds.{row_of, heard, passed}
+use Rattle.rl_protocol.specs.Minds.{row_of, heard}
 use Rattle.rl_protocol.specs.Agreement.{place_of, open_attempts, IsStanding}
 
 -- a job with a letter isn't Pass

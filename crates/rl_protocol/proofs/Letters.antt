@@ -1,19 +1,16 @@
 -- What a letter of the job table names: arms that are there, and for a lock a passage that its box can connect.
-use Rattle.std.proofs.Common.{◌≡◌, ◌≢◌, ℕ, ◌+◌, ◌-◌, ◌<◌, ◌==◌, Bool, true, false, cond, not, ◌&&◌, ◌||◌, Option, Some, None, refl, sym, ap, ◌∙◌, subst, ◌⊎◌, inl, inr, arith}
+use Rattle.std.proofs.Common.{◌≡◌, ℕ, ◌+◌, ◌<◌, ◌==◌, Bool, true, false, cond, ◌&&◌, ◌||◌, Some, refl, arith}
 use Rattle.std.proofs.lemmas.Bool.{false≢true}
 use Rattle.std.proofs.lemmas.Bool.Decides.{nat_tests}
-use Rattle.rl_base.specs.declared.ids.BoxId.{BoxId}
-use Rattle.rl_base.specs.declared.ids.Arm.{Arm}
 use Rattle.rl_base.specs.declared.job.Job.{Job}
 use Rattle.rl_base.specs.declared.job.Job.TheVariants as jobs
 use Rattle.rl_base.specs.declared.job.Verb.TheVariants as verbs
 use Rattle.rl_words.specs.declared.mail.Letter.{Letter}
 use Rattle.rl_tables.specs.declared.table.StepRow.{StepRow}
-use Rattle.rl_tables.specs.Kept.{can_join}
 use Rattle.rl_protocol.specs.Line.{Line, at, IsStepOf, IsConsistent}
 use Rattle.rl_train.specs.declared.mind.TrainMind.{TrainMind}
 use Rattle.rl_protocol.specs.Jobs.{letter_at, has_passed, holds_at, locks_at, begins, passes}
-use Rattle.rl_protocol.specs.Minds.{row_of, letter_of}
+use Rattle.rl_protocol.specs.Minds.{letter_of}
 use Rattle.rl_protocol.specs.Held.{job_holds}
 use Rattle.rl_protocol.specs.Agreement.{place_of}
 

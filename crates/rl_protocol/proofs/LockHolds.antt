@@ -1,7 +1,6 @@
 -- Every step keeps the agreement on locks.
-use Rattle.std.proofs.Common.{◌≡◌, ◌≢◌, ℕ, ◌+◌, ◌-◌, ◌<◌, ◌==◌, Bool, true, false, cond, not, ◌&&◌, ◌||◌, Option, Some, None, refl, sym, ap, ◌∙◌, subst, ◌⊎◌, inl, inr, ⊎_elim, arith}
+use Rattle.std.proofs.Common.{◌≡◌, ℕ, ◌==◌, ◌&&◌, arith}
 use Rattle.std.proofs.lemmas.Bool.Decides.{nat_tests}
-use Rattle.rl_base.specs.declared.ids.TrainId.{TrainId}
 use Rattle.rl_words.specs.declared.mail.Letter.{Letter}
 use Rattle.rl_words.specs.declared.mail.MailWord.TheVariants.{Yes}
 use Rattle.rl_protocol.specs.Line.{Line, at}

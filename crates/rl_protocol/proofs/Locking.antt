@@ -1,9 +1,8 @@
 -- The moves Lock, Unlock, Throw and Settle: their guards hold, and their changes are those of the lock words.
-use Rattle.std.proofs.Common.{◌≡◌, ◌≢◌, ℕ, ◌+◌, ◌<◌, ◌==◌, Bool, true, false, cond, not, ◌&&◌, ◌||◌, Option, Some, None, refl, sym, ap, ◌∙◌, subst, arith}
+use Rattle.std.proofs.Common.{◌≡◌, ◌≢◌, ℕ, ◌==◌, Bool, true, false, cond, not, ◌&&◌, ◌||◌, Option, Some, refl, sym, ap, ◌∙◌, subst, arith}
 use Rattle.std.specs.Prelude.{is_some, unwrap_or}
-use Rattle.std.specs.Option.{option_map_or}
 use Rattle.std.proofs.Math.Path.{fun_ext}
-use Rattle.std.proofs.lemmas.Bool.{eq-eqb, and_parts, and_from, eqb-true, false≢true, cond_both}
+use Rattle.std.proofs.lemmas.Bool.{eq-eqb, and_parts, and_from, eqb-true, cond_both}
 use Rattle.std.proofs.lemmas.Bool.Decides.{nat_tests}
 use Rattle.std.proofs.lemmas.Option.{same_Some}
 use Rattle.rl_base.specs.declared.kind.Kind.{Kind}
@@ -15,7 +14,6 @@ use Rattle.rl_tables.specs.Kept.{can_join}
 use Rattle.rl_model.specs.declared.network.NetworkPlan.{NetworkPlan}
 use Rattle.rl_model.specs.declared.moves.Points.{Points}
 use Rattle.rl_model.specs.declared.moves.Points.TheVariants as points
-use Rattle.rl_model.specs.declared.moves.Move.{Move}
 use Rattle.rl_model.specs.declared.moves.Move.TheVariants as moves
 use Rattle.rl_model.specs.Network.{kind_of, segment_at, arm_of, joined, connects, can_connect}
 use Rattle.rl_model.specs.World.{World, points_at, points_connect}
@@ -28,7 +26,7 @@ use Rattle.rl_protocol.specs.State.{State, put}
 use Rattle.rl_box.specs.Steps.{other_side}
 use Rattle.rl_protocol.specs.Minds.{box}
 use Rattle.rl_protocol.specs.StepMoves.{seg_at}
-use Rattle.rl_protocol.specs.Worlds.{is_number, is_passage, locks, standing, moving, side_of_path, points_in, world_at}
+use Rattle.rl_protocol.specs.Worlds.{is_number, is_passage, locks, standing, moving, points_in, world_at}
 use Rattle.rl_protocol.proofs.Places.{ArePlaced}
 use Rattle.rl_protocol.proofs.Sides.{join_apart, has_side, one_side, stands_still}
 use Rattle.rl_protocol.proofs.Reserving.{IsMove, held_at}

@@ -1,21 +1,21 @@
 -- Every step keeps the agreement on mailboxes.
-use Rattle.std.proofs.Common.{◌≡◌, ◌≢◌, ℕ, ◌+◌, ◌-◌, ◌<◌, ◌==◌, Bool, true, false, cond, not, ◌&&◌, ◌||◌, Option, Some, None, refl, sym, ap, ◌∙◌, subst, ◌⊎◌, inl, inr, ⊎_elim, arith}
+use Rattle.std.proofs.Common.{◌≡◌, ◌≢◌, ℕ, true, false, Some, refl, sym, ap, ◌∙◌, inr, ⊎_elim, arith}
 use Rattle.std.proofs.lemmas.Bool.{cases_eq}
 use Rattle.std.proofs.lemmas.Bool.Decides.{nat_tests}
 use Rattle.rl_base.specs.declared.ids.TrainId.{TrainId}
 use Rattle.rl_base.specs.declared.job.Verb.TheVariants as verbs
 use Rattle.rl_base.specs.declared.kind.Side.{Side}
-use Rattle.rl_words.specs.declared.mail.MailWord.TheVariants.{Empty, Ask, Taken, Yes, No}
+use Rattle.rl_words.specs.declared.mail.MailWord.TheVariants.{Empty, Taken}
 use Rattle.rl_words.specs.declared.mail.Letter.{Letter}
 use Rattle.rl_words.specs.declared.lock.Path.{Path}
 use Rattle.rl_box.specs.declared.mind.Answer.{Answer}
-use Rattle.rl_box.specs.declared.mind.Work.TheVariants.{Ready, Serve, Say}
+use Rattle.rl_box.specs.declared.mind.Work.TheVariants.{Serve, Say}
 use Rattle.rl_protocol.specs.Line.{Line}
 use Rattle.rl_protocol.specs.State.{State}
 use Rattle.rl_box.specs.Steps.{path_of}
 use Rattle.rl_protocol.specs.Minds.{letter_of, letter_of_path, train}
 use Rattle.rl_protocol.specs.Steps.{Step, post, hear_yes, hear_no, go, quiet, take, grant, refuse, release, lock_now, lock_ask, lock_moved, unlock, say_yes, say_no, busy, throw, settle, enter, head, leave, tail, Fits, next}
-use Rattle.rl_protocol.specs.Agreement.{asks, Carries, IsAtWork, AgreesOnMailboxes, path_in_setting}
+use Rattle.rl_protocol.specs.Agreement.{asks, Carries, IsAtWork, AgreesOnMailboxes}
 use Rattle.rl_protocol.proofs.Jobs.{letter_not_passing}
 use Rattle.rl_protocol.proofs.Known.{Known, HasTaken}
 

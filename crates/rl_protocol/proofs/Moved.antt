@@ -1,7 +1,7 @@
 -- Every step's move is guarded in the world of the state before it, and makes that world the one of the state after it.
-use Rattle.std.proofs.Common.{◌≡◌, ◌≢◌, ℕ, ◌+◌, ◌<◌, ◌==◌, Bool, true, false, cond, not, ◌&&◌, ◌||◌, List, [], ◌∷◌, length, zero, suc, slice_get, Option, Some, None, refl, sym, ap, ◌∙◌, subst, inl, inr, ◌⊎◌, ⊎_elim, arith}
+use Rattle.std.proofs.Common.{◌≡◌, ◌≢◌, ℕ, ◌+◌, ◌<◌, ◌==◌, Bool, true, false, not, ◌&&◌, ◌||◌, List, [], ◌∷◌, length, zero, suc, slice_get, Option, Some, None, refl, sym, ap, ◌∙◌, subst, inl, inr, ◌⊎◌, arith}
 use Rattle.std.specs.Prelude.{is_some, unwrap_or, option_map}
-use Rattle.std.proofs.lemmas.Bool.{eq-eqb, eqb-true, or_left, or_right, and_from, and_parts, false≢true, both_ways}
+use Rattle.std.proofs.lemmas.Bool.{eq-eqb, eqb-true, or_right, and_from, and_parts, false≢true}
 use Rattle.std.proofs.lemmas.Bool.Decides.{nat_tests}
 use Rattle.std.proofs.lemmas.Option.{option_and_then_some}
 use Rattle.rl_base.specs.declared.ids.SegId.{SegId}
@@ -19,29 +19,27 @@ use Rattle.rl_model.specs.declared.moves.Move.TheVariants as moves
 use Rattle.rl_model.specs.declared.network.Segment.{Segment}
 use Rattle.rl_model.specs.declared.network.Train.{Train}
 use Rattle.rl_model.specs.declared.network.NetworkPlan.{NetworkPlan}
-use Rattle.rl_model.specs.Network.{kind_of, segment_at, arm_of, steps_of, route_segment, route_box, IsNetwork, IsStep}
+use Rattle.rl_model.specs.Network.{kind_of, segment_at, route_segment, route_box, IsNetwork, IsStep}
 use Rattle.rl_model.specs.World.{World, points_connect}
-use Rattle.rl_model.specs.Moves.{holds_ends, IsNotAcross}
+use Rattle.rl_model.specs.Moves.{holds_ends}
 use Rattle.rl_words.specs.declared.lock.LockWord.{LockWord}
 use Rattle.rl_words.specs.declared.lock.LockWord.TheVariants.{Free, Asked, Moving, Moved, Locked}
 use Rattle.rl_words.specs.declared.lock.Path.{Path}
 use Rattle.rl_words.specs.declared.mail.Letter.{Letter}
-use Rattle.rl_words.specs.declared.mail.MailWord.TheVariants.{Empty, Ask, Taken, Yes, No}
-use Rattle.rl_words.specs.declared.run.RunWord.{RunWord}
+use Rattle.rl_words.specs.declared.mail.MailWord.TheVariants.{Empty}
 use Rattle.rl_words.specs.declared.run.RunWord.TheVariants.{Clear, Go, Across}
 use Rattle.rl_words.specs.Mail.{IsRefusable}
 use Rattle.rl_protocol.specs.Line.{Line, at, is_held_by, IsConsistent}
 use Rattle.rl_protocol.specs.Jobs.{passes}
-use Rattle.rl_protocol.specs.State.{State, put}
+use Rattle.rl_protocol.specs.State.{State}
 use Rattle.rl_box.specs.Steps.{path_of, other_side}
 use Rattle.rl_protocol.specs.Minds.{train, box, row_of, letter_of_path}
 use Rattle.rl_protocol.specs.Steps.{Step, post, hear_yes, hear_no, go, quiet, take, grant, refuse, release, lock_now, lock_ask, lock_moved, unlock, say_yes, say_no, busy, throw, settle, enter, head, leave, tail, Fits, next}
 use Rattle.rl_protocol.specs.StepMoves.{move_of, refusal_of, seg_at}
 use Rattle.rl_protocol.specs.Held.{has_done_for, done_in, held_with, locked_with, holds, has_lock, job_holds, job_locks}
-use Rattle.rl_protocol.specs.Agreement.{Agrees, AgreesOnPassage, is_passing, is_under_way, place_of, is_locked_by, path_in_setting, lock_holder, HasWhatIsAsked}
-use Rattle.rl_protocol.specs.Worlds.{is_number, same_number, IsLineOf, stands_on, is_across, steps_made, locks, standing, side_of_path, points_in, world_at}
+use Rattle.rl_protocol.specs.Agreement.{Agrees, AgreesOnPassage, is_passing, place_of, is_locked_by, path_in_setting, lock_holder, HasWhatIsAsked}
+use Rattle.rl_protocol.specs.Worlds.{same_number, IsLineOf, stands_on, is_across, locks, standing, points_in, world_at}
 use Rattle.rl_protocol.proofs.Known.{Known, HasTaken}
-use Rattle.rl_protocol.proofs.Agreed.{known_of}
 use Rattle.rl_protocol.proofs.Places.{ArePlaced}
 use Rattle.rl_protocol.proofs.Letters.{row_arms, letter_arm, letter_off, here_at, ahead_at, passing_holds, passing_locks}
 use Rattle.rl_protocol.proofs.Sides.{has_side, stands_now, stands_asked}

@@ -1,9 +1,8 @@
 -- The moves Enter and Leave: their guards hold, and their changes are those of the run words.
 use Rattle.std.proofs.Common.{◌≡◌, ◌≢◌, ℕ, ◌+◌, ◌<◌, ◌==◌, Bool, true, false, cond, not, ◌&&◌, ◌||◌, slice_get, Option, Some, None, option_and_then, refl, sym, ap, ◌∙◌, subst, arith}
-use Rattle.std.specs.Prelude.{is_some, unwrap_or}
 use Rattle.std.specs.Option.{option_map_or}
 use Rattle.std.proofs.Math.Path.{fun_ext}
-use Rattle.std.proofs.lemmas.Bool.{eq-eqb, and_parts, and_from, eqb-true, false≢true, cond_both}
+use Rattle.std.proofs.lemmas.Bool.{eq-eqb, and_from, false≢true}
 use Rattle.std.proofs.lemmas.Bool.Decides.{nat_tests}
 use Rattle.rl_base.specs.declared.kind.Kind.{Kind}
 use Rattle.rl_base.specs.declared.kind.Kind.TheVariants.{Buffer, Joint, Point, Crossing}
@@ -13,7 +12,7 @@ use Rattle.rl_base.specs.Kind.{arms_join}
 use Rattle.rl_model.specs.declared.network.Segment.{Segment}
 use Rattle.rl_model.specs.declared.network.NetworkPlan.{NetworkPlan}
 use Rattle.rl_model.specs.declared.moves.Move.TheVariants as moves
-use Rattle.rl_model.specs.Network.{kind_of, arm_at, arm_of, segment_at, steps_of, route_segment, route_box, connects, IsStep}
+use Rattle.rl_model.specs.Network.{kind_of, arm_at, arm_of, steps_of, route_segment, route_box, connects, IsStep}
 use Rattle.rl_model.specs.World.{World, points_connect}
 use Rattle.rl_model.specs.Moves.{holds_ends}
 use Rattle.rl_words.specs.declared.lock.LockWord.{LockWord}

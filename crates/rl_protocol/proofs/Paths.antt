@@ -1,25 +1,23 @@
 -- The path of a lock that is asked for or had is that of the step of its train.
-use Rattle.std.proofs.Common.{◌≡◌, ◌≢◌, ℕ, ◌+◌, ◌<◌, ◌==◌, Bool, true, false, cond, not, ◌&&◌, ◌||◌, Option, Some, None, refl, sym, ap, ◌∙◌, subst, inl, inr, ◌⊎◌, ⊎_elim, arith}
+use Rattle.std.proofs.Common.{◌≡◌, ℕ, ◌+◌, ◌<◌, ◌==◌, Bool, true, not, ◌&&◌, Option, Some, None, refl, sym, ap, ◌∙◌, subst, inl, inr, ◌⊎◌, ⊎_elim, arith}
 use Rattle.std.proofs.lemmas.Bool.{or_left, or_right, or_cases, and_parts, not_from_false}
 use Rattle.std.proofs.lemmas.Bool.Decides.{nat_tests}
 use Rattle.rl_base.specs.declared.job.Verb.{Verb}
 use Rattle.rl_base.specs.declared.job.Verb.TheVariants as verbs
 use Rattle.rl_model.specs.declared.network.NetworkPlan.{NetworkPlan}
-use Rattle.rl_model.specs.Network.{kind_of}
 use Rattle.rl_tables.specs.Kept.{can_join}
 use Rattle.rl_train.specs.declared.mind.TrainMind.{TrainMind}
 use Rattle.rl_words.specs.declared.lock.Path.{Path}
 use Rattle.rl_words.specs.declared.mail.Letter.{Letter}
-use Rattle.rl_words.specs.declared.mail.MailWord.TheVariants.{Empty, Ask, Taken, Yes, No}
+use Rattle.rl_words.specs.declared.mail.MailWord.TheVariants.{Taken, Yes}
 use Rattle.rl_protocol.specs.Line.{Line, at, is_held_by, IsConsistent}
 use Rattle.rl_protocol.specs.State.{State}
-use Rattle.rl_box.specs.Steps.{path_of}
-use Rattle.rl_protocol.specs.Minds.{row_of, letter_of, letter_of_path, train}
+use Rattle.rl_protocol.specs.Minds.{row_of, letter_of}
 use Rattle.rl_protocol.specs.Held.{done_letter, holds, has_lock, job_holds, job_locks, locked_after, locked_with}
-use Rattle.rl_protocol.specs.Agreement.{Agrees, is_under_way, is_locked_by}
+use Rattle.rl_protocol.specs.Agreement.{Agrees}
 use Rattle.rl_protocol.specs.Worlds.{IsLineOf}
 use Rattle.rl_protocol.proofs.Known.{Waits, HasTaken, taken, answered}
-use Rattle.rl_protocol.proofs.Letters.{row_arms, here_at, ahead_at, AsksLock, asks_lock, AsksUnlock, asks_unlock, locks_only}
+use Rattle.rl_protocol.proofs.Letters.{row_arms, here_at, ahead_at, asks_lock, asks_unlock, locks_only}
 use Rattle.rl_protocol.proofs.Reserving.{there_at}
 use Rattle.rl_protocol.proofs.Locking.{IsPathAt}
 

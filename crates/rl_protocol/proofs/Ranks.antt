@@ -1,6 +1,5 @@
 -- Ranks: the most that the events of a train's open attempt can weigh so far.
-use Rattle.std.proofs.Common.{◌≡◌, ◌≢◌, ℕ, ◌+◌, ◌-◌, ◌*◌, ◌<◌, ◌≤◌, ◌==◌, Bool, true, false, cond, if◌then◌else◌, not, ◌&&◌, ◌||◌, Option, Some, None, refl, sym, ap, ◌∙◌, subst, arith}
-use Rattle.std.proofs.lemmas.Bool.{false≢true}
+use Rattle.std.proofs.Common.{◌≡◌, ◌≢◌, ℕ, ◌+◌, ◌*◌, ◌≤◌, ◌==◌, true, cond, if◌then◌else◌, Option, Some, None, refl, arith}
 use Rattle.std.proofs.lemmas.Option.{none-some}
 use Rattle.std.proofs.lemmas.Bool.Decides.{nat_tests}
 use Rattle.rl_base.specs.declared.ids.TrainId.{TrainId}
@@ -17,14 +16,13 @@ use Rattle.rl_words.specs.declared.mail.MailWord.TheVariants.{Empty, Ask, Taken,
 use Rattle.rl_words.specs.declared.run.RunWord.{RunWord}
 use Rattle.rl_words.specs.declared.run.RunWord.TheVariants.{Clear, Go, Across}
 use Rattle.rl_tables.specs.declared.table.StepRow.{StepRow}
-use Rattle.rl_train.specs.declared.mind.TrainMind.{TrainMind}
 use Rattle.rl_box.specs.declared.mind.Answer.{Answer}
 use Rattle.rl_box.specs.declared.mind.Answer.TheVariants as answers
 use Rattle.rl_box.specs.declared.mind.BoxMind.{BoxMind}
 use Rattle.rl_box.specs.declared.mind.Work.{Work}
 use Rattle.rl_box.specs.declared.mind.Work.TheVariants.{Ready, Serve, Say}
 use Rattle.rl_track.specs.declared.track.TrackPhase.{TrackPhase}
-use Rattle.rl_track.specs.declared.track.TrackPhase.TheVariants.{Watch, HeadDue, LeaveDue, TailDue}
+use Rattle.rl_track.specs.declared.track.TrackPhase.TheVariants.{HeadDue, TailDue}
 use Rattle.rl_protocol.specs.Line.{Line}
 use Rattle.rl_protocol.specs.Jobs.{letter_at, job_after_yes, job_after_no, passes, begins}
 use Rattle.rl_protocol.specs.State.{State, start}

@@ -1,7 +1,6 @@
 -- Refusals counted: the Refuse and Bar moves of a train are those that it has heard, and the one in its mailbox.
-use Rattle.std.proofs.Common.{◌≡◌, ◌≢◌, ℕ, ◌+◌, ◌<◌, ◌==◌, Bool, true, false, cond, ◌&&◌, List, [], ◌∷◌, ◌++◌, append-nil, Option, Some, None, refl, sym, ap, ◌∙◌, subst, arith}
+use Rattle.std.proofs.Common.{◌≡◌, ℕ, ◌+◌, Bool, cond, List, [], ◌∷◌, ◌++◌, refl, sym, ap, ◌∙◌, arith}
 use Rattle.std.specs.Prelude.{option_to_list, count_by}
-use Rattle.std.proofs.lemmas.Bool.{false≢true}
 use Rattle.std.proofs.lemmas.List.Sums.{sum_by-append}
 use Rattle.std.proofs.lemmas.Bool.Decides.{nat_tests}
 use Rattle.rl_model.specs.declared.moves.Move.{Move}
@@ -11,7 +10,6 @@ use Rattle.rl_protocol.specs.State.{State}
 use Rattle.rl_protocol.specs.Steps.{Step, Fits, next}
 use Rattle.rl_protocol.specs.StepMoves.{move_of}
 use Rattle.rl_protocol.specs.Runs.{state_after, IsRun, moves_of}
-use Rattle.rl_protocol.specs.Agreement.{Agrees}
 use Rattle.rl_protocol.specs.Refusals.{refusals_said}
 use Rattle.rl_protocol.proofs.Known.{Known}
 use Rattle.rl_protocol.proofs.Agreed.{agrees, known_of}

@@ -1,5 +1,5 @@
 -- The moves Reserve and Release: their guards hold, and their changes are those of the reservation words.
-use Rattle.std.proofs.Common.{◌≡◌, ◌≢◌, ℕ, ◌+◌, ◌<◌, ◌==◌, Bool, true, false, cond, not, ◌&&◌, ◌||◌, Option, Some, None, refl, sym, ap, ◌∙◌, subst, arith}
+use Rattle.std.proofs.Common.{◌≡◌, ℕ, ◌==◌, true, false, cond, not, ◌&&◌, ◌||◌, Option, Some, None, refl, ap, ◌∙◌, arith}
 use Rattle.std.specs.Prelude.{is_some}
 use Rattle.std.specs.Option.{option_map_or}
 use Rattle.std.proofs.Math.Path.{fun_ext}
@@ -16,7 +16,7 @@ use Rattle.rl_words.specs.declared.mail.Letter.{Letter}
 use Rattle.rl_protocol.specs.Line.{Line, is_held_by}
 use Rattle.rl_protocol.specs.State.{State, put_at}
 use Rattle.rl_protocol.specs.Minds.{train, box}
-use Rattle.rl_protocol.specs.Steps.{Step, grant, release, next}
+use Rattle.rl_protocol.specs.Steps.{grant, release, next}
 use Rattle.rl_protocol.specs.StepMoves.{seg_at}
 use Rattle.rl_protocol.specs.Worlds.{IsLineOf, world_at}
 use Rattle.rl_protocol.proofs.Places.{ArePlaced}

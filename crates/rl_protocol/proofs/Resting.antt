@@ -1,31 +1,30 @@
 -- Trains at rest: what they hold, and how the world stands then.
-use Rattle.std.proofs.Common.{◌≡◌, ◌≢◌, ℕ, ◌+◌, ◌<◌, ◌≤◌, ◌==◌, Bool, true, false, cond, not, ◌&&◌, ◌||◌, List, [], ◌∷◌, length, zero, suc, slice_get, Option, Some, None, refl, sym, ap, ◌∙◌, subst, arith}
+use Rattle.std.proofs.Common.{◌≡◌, ℕ, ◌+◌, ◌<◌, ◌≤◌, ◌==◌, Bool, true, false, cond, not, ◌&&◌, length, slice_get, Option, Some, None, refl, ap, ◌∙◌, subst, arith}
 use Rattle.std.specs.Prelude.{is_some, option_map, option_and_then}
 use Rattle.std.specs.Option.{option_map_or}
-use Rattle.std.proofs.lemmas.Bool.{eq-eqb, and_parts, and_from, both_ways, false≢true, not-true}
+use Rattle.std.proofs.lemmas.Bool.{eq-eqb, and_parts, and_from, both_ways, not-true}
 use Rattle.std.proofs.lemmas.Bool.Decides.{nat_tests}
 use Rattle.rl_base.specs.declared.ids.SegId.{SegId}
 use Rattle.rl_base.specs.declared.kind.Side.{Side}
 use Rattle.rl_model.specs.declared.network.Train.{Train}
 use Rattle.rl_model.specs.declared.network.NetworkPlan.{NetworkPlan}
-use Rattle.rl_model.specs.Network.{segment_at, arm_of, has_end, steps_of, route_segment, route_box, IsNetwork}
+use Rattle.rl_model.specs.Network.{segment_at, arm_of, steps_of, route_segment, route_box, IsNetwork}
 use Rattle.rl_model.specs.Reports.{Rests}
 use Rattle.rl_words.specs.declared.lock.LockWord.{LockWord}
 use Rattle.rl_words.specs.declared.lock.LockWord.TheVariants.{Free, Asked, Moving, Moved, Locked}
 use Rattle.rl_words.specs.declared.lock.Path.{Path}
-use Rattle.rl_words.specs.declared.mail.MailWord.TheVariants.{Empty, Ask, Taken, Yes, No}
+use Rattle.rl_words.specs.declared.mail.MailWord.TheVariants.{Empty}
 use Rattle.rl_words.specs.declared.run.RunWord.TheVariants.{Clear}
-use Rattle.rl_protocol.specs.Line.{Line, is_held_by, IsConsistent}
+use Rattle.rl_protocol.specs.Line.{Line, is_held_by}
 use Rattle.rl_protocol.specs.Jobs.{begins, passes}
 use Rattle.rl_protocol.specs.State.{State}
 use Rattle.rl_protocol.specs.Minds.{at_rest, row_of}
-use Rattle.rl_protocol.specs.Held.{has_done_for, done_in, held_with, locked_with, holds, has_lock, job_holds, job_locks}
-use Rattle.rl_protocol.specs.Agreement.{Agrees, is_locked_by, place_of}
-use Rattle.rl_protocol.specs.Worlds.{is_number, same_number, IsLineOf, IsRailway, stands_on, is_across, locks, world_at}
+use Rattle.rl_protocol.specs.Held.{has_done_for, done_in, held_with, locked_with, job_holds, job_locks}
+use Rattle.rl_protocol.specs.Agreement.{Agrees, is_locked_by}
+use Rattle.rl_protocol.specs.Worlds.{is_number, same_number, IsRailway, stands_on, is_across, locks, world_at}
 use Rattle.rl_protocol.specs.Rest.{AllRest, IsAtRest}
 use Rattle.rl_protocol.proofs.Jobs.{beginning_holds, beginning_unlocked, beginning_place}
-use Rattle.rl_protocol.proofs.Places.{ArePlaced, placed}
-use Rattle.rl_protocol.proofs.Reserving.{held_at}
+use Rattle.rl_protocol.proofs.Places.{placed}
 use Rattle.rl_protocol.proofs.Passing.{number_is}
 use Rattle.rl_protocol.proofs.Moved.{item_there}
 

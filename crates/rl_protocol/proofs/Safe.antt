@@ -1,20 +1,17 @@
 -- The moves of every run are guarded, and leave the world of its state.
-use Rattle.std.proofs.Common.{◌≡◌, ◌≢◌, ℕ, ◌+◌, ◌<◌, ◌==◌, Bool, true, false, cond, ◌&&◌, List, [], ◌∷◌, ◌++◌, append-nil, slice_get, Option, Some, None, refl, sym, ap, ◌∙◌, subst, arith}
+use Rattle.std.proofs.Common.{◌≡◌, ◌≢◌, ℕ, Bool, true, false, ◌&&◌, List, [], ◌∷◌, ◌++◌, append-nil, slice_get, Option, Some, None, refl, sym, ap, ◌∙◌, subst}
 use Rattle.std.specs.Prelude.{is_some, fold, option_to_list}
 use Rattle.std.specs.Option.{option_map_or}
 use Rattle.std.proofs.Math.Path.{fun_ext}
 use Rattle.std.proofs.lemmas.Grind.{fold-append}
-use Rattle.std.proofs.lemmas.Bool.{false≢true}
-use Rattle.std.proofs.lemmas.Bool.Decides.{nat_tests}
 use Rattle.rl_base.specs.declared.kind.Kind.{Kind}
 use Rattle.rl_base.specs.declared.kind.Kind.TheVariants.{Buffer, Joint, Point, Crossing}
 use Rattle.rl_base.specs.declared.kind.Side.{Side}
-use Rattle.rl_base.specs.declared.kind.Side.TheVariants.{Left, Right}
+use Rattle.rl_base.specs.declared.kind.Side.TheVariants.{Left}
 use Rattle.rl_model.specs.declared.moves.Move.{Move}
-use Rattle.rl_model.specs.declared.moves.Points.{Points}
 use Rattle.rl_model.specs.declared.network.SwitchBox.{SwitchBox}
 use Rattle.rl_model.specs.declared.network.NetworkPlan.{NetworkPlan}
-use Rattle.rl_model.specs.Network.{kind_of, start_side, segment_at, arm_of, has_end, route_segment, IsNetwork}
+use Rattle.rl_model.specs.Network.{kind_of, start_side, arm_of, route_segment, IsNetwork}
 use Rattle.rl_model.specs.World.{World, start, starts_on, points_at}
 use Rattle.rl_model.specs.Moves.{guards, AllHold, after}
 use Rattle.rl_model.specs.Safety.{GuardedFrom, Guarded, IsSafeRun, world_after}
@@ -26,7 +23,7 @@ use Rattle.rl_protocol.specs.Steps.{Step, Fits, next}
 use Rattle.rl_protocol.specs.StepMoves.{move_of}
 use Rattle.rl_protocol.specs.Runs.{state_after, IsRun, moves_of}
 use Rattle.rl_protocol.specs.Agreement.{Agrees}
-use Rattle.rl_protocol.specs.Worlds.{is_number, same_number, IsLineOf, IsRailway, standing, world_at}
+use Rattle.rl_protocol.specs.Worlds.{same_number, IsLineOf, IsRailway, standing, world_at}
 use Rattle.rl_protocol.proofs.Agreed.{agrees, known_of}
 use Rattle.rl_protocol.proofs.Places.{ArePlaced, placed}
 use Rattle.rl_protocol.proofs.Reserving.{IsMove}

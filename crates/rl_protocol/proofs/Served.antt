@@ -1,6 +1,6 @@
 -- A box that serves a letter, or has an answer to say, has a step on the word at which it looks.
-use Rattle.std.proofs.Common.{◌≡◌, ◌≢◌, ℕ, ◌+◌, ◌<◌, ◌==◌, Bool, true, false, cond, not, ◌&&◌, ◌||◌, Option, Some, None, refl, sym, ap, ◌∙◌, subst, inl, inr, ◌⊎◌, ⊎_elim, arith}
-use Rattle.std.proofs.lemmas.Bool.{eq-eqb, eqb-true, ne_eqb, and_parts, and_from, cases_eq, both_ways, false≢true}
+use Rattle.std.proofs.Common.{◌≡◌, ◌≢◌, ℕ, ◌<◌, Bool, true, false, ◌||◌, Option, Some, None, refl, sym, ap, ◌∙◌, subst, ◌⊎◌, ⊎_elim, arith}
+use Rattle.std.proofs.lemmas.Bool.{eq-eqb, eqb-true, and_parts, and_from, both_ways, false≢true}
 use Rattle.std.proofs.lemmas.Option.{same_Some}
 use Rattle.std.proofs.lemmas.Bool.Decides.{nat_tests}
 use Rattle.rl_base.specs.declared.ids.TrainId.{TrainId}
@@ -14,25 +14,24 @@ use Rattle.rl_train.specs.declared.mind.TrainMind.{TrainMind}
 use Rattle.rl_base.specs.declared.layout.NodeKind.TheVariants as nodes
 use Rattle.rl_base.specs.declared.layout.WordKind.{WordKind}
 use Rattle.rl_base.specs.declared.layout.WordKind.TheVariants as words
-use Rattle.rl_base.specs.Kind.{arms_join, joining_side}
+use Rattle.rl_base.specs.Kind.{arms_join}
 use Rattle.rl_tables.specs.Kept.{can_join}
 use Rattle.rl_words.specs.declared.lock.LockWord.{LockWord}
 use Rattle.rl_words.specs.declared.lock.LockWord.TheVariants.{Free, Asked, Moving, Moved, Locked}
 use Rattle.rl_words.specs.declared.lock.Path.{Path}
 use Rattle.rl_words.specs.declared.mail.Letter.{Letter}
-use Rattle.rl_words.specs.declared.mail.MailWord.TheVariants.{Empty, Ask, Taken, Yes, No}
+use Rattle.rl_words.specs.declared.mail.MailWord.TheVariants.{Taken}
 use Rattle.rl_words.specs.Mail.{IsRefusable}
 use Rattle.rl_box.specs.declared.mind.Answer.{Answer}
 use Rattle.rl_box.specs.declared.mind.Answer.TheVariants as answers
-use Rattle.rl_box.specs.declared.mind.BoxMind.{BoxMind}
 use Rattle.rl_box.specs.declared.mind.Work.{Work}
 use Rattle.rl_box.specs.declared.mind.Work.TheVariants.{Ready, Serve, Say}
-use Rattle.rl_protocol.specs.Line.{Line, at, is_held_by, IsConsistent}
+use Rattle.rl_protocol.specs.Line.{Line, is_held_by, IsConsistent}
 use Rattle.rl_protocol.specs.State.{State}
 use Rattle.rl_box.specs.Steps.{path_of, other_side}
 use Rattle.rl_protocol.specs.Minds.{train, box, letter_of_path, row_of, serving}
-use Rattle.rl_protocol.specs.Steps.{Step, grant, refuse, release, lock_now, lock_ask, unlock, say_yes, say_no, busy, Fits}
-use Rattle.rl_protocol.specs.Held.{is_path_of, held_with, locked_with, done_letter, holds, has_lock, job_holds, job_locks}
+use Rattle.rl_protocol.specs.Steps.{grant, refuse, release, lock_now, lock_ask, unlock, say_yes, say_no, busy}
+use Rattle.rl_protocol.specs.Held.{held_with, locked_with, done_letter, job_holds, job_locks}
 use Rattle.rl_protocol.specs.Agreement.{Agrees, is_locked_by, path_in_setting, HasWhatIsAsked}
 use Rattle.rl_protocol.specs.AtWork.{HasStep, word_for, word_at_work}
 use Rattle.rl_protocol.proofs.Known.{HasTaken, taken, taken_path}

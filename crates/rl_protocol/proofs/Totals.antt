@@ -1,7 +1,7 @@
 -- All that the steps of a run weigh is at most what the attempts posted can weigh.
-use Rattle.std.proofs.Common.{◌≡◌, ◌≢◌, ℕ, zero, suc, ◌+◌, ◌-◌, ◌*◌, ◌<◌, ◌≤◌, ◌==◌, Bool, true, false, cond, if◌then◌else◌, not, ◌&&◌, ◌||◌, List, [], ◌∷◌, ◌++◌, length, length-append, Option, Some, None, refl, sym, ap, ◌∙◌, subst, inl, inr, ◌⊎◌, ⊎_elim, arith}
-use Rattle.std.specs.Prelude.{option_to_list, count_by}
-use Rattle.std.proofs.lemmas.Bool.{cases_Bool, cases_eq, cases_lt, eq-eqb, and_parts, or_left, or_right, not_from_false, false≢true}
+use Rattle.std.proofs.Common.{◌≡◌, ℕ, zero, suc, ◌+◌, ◌-◌, ◌*◌, ◌<◌, ◌≤◌, cond, List, [], ◌∷◌, length, length-append, Option, Some, None, refl, ap, ◌∙◌, inl, inr, ◌⊎◌, ⊎_elim, arith}
+use Rattle.std.specs.Prelude.{option_to_list}
+use Rattle.std.proofs.lemmas.Bool.{cases_eq, cases_lt, eq-eqb}
 use Rattle.std.proofs.lemmas.List.Sums.{sum_by-cons}
 use Rattle.std.proofs.lemmas.Bool.Decides.{nat_tests}
 use Rattle.rl_base.specs.declared.ids.TrainId.{TrainId}
@@ -13,17 +13,17 @@ use Rattle.rl_model.specs.declared.moves.Move.{Move}
 use Rattle.rl_words.specs.declared.mail.Letter.{Letter}
 use Rattle.rl_protocol.specs.Line.{Line, IsConsistent}
 use Rattle.rl_protocol.specs.State.{State}
-use Rattle.rl_protocol.specs.Steps.{Step, post, hear_yes, hear_no, go, quiet, take, grant, refuse, release, lock_now, lock_ask, lock_moved, unlock, say_yes, say_no, busy, throw, settle, enter, head, leave, tail, Fits, next}
+use Rattle.rl_protocol.specs.Steps.{Step, Fits, next}
 use Rattle.rl_protocol.specs.StepMoves.{move_of, refusal_of}
 use Rattle.rl_protocol.specs.Nodes.{node_of}
 use Rattle.rl_protocol.specs.Runs.{state_after, IsRun, moves_of}
-use Rattle.rl_protocol.specs.Agreement.{Agrees, is_under_way}
+use Rattle.rl_protocol.specs.Agreement.{Agrees}
 use Rattle.rl_protocol.specs.Counts.{same_node, events_of, attempts_posted}
 use Rattle.rl_protocol.proofs.Known.{Known}
 use Rattle.rl_protocol.proofs.Jobs.{begins_passes}
 use Rattle.rl_protocol.proofs.Agreed.{agrees, known_of}
 use Rattle.rl_protocol.proofs.Ranks.{Weights, weight, about, attempt_weight, rank, rank_starts}
-use Rattle.rl_protocol.proofs.Counted.{opens, weight_for, raised_or_opened, bounded}
+use Rattle.rl_protocol.proofs.Counted.{weight_for, raised_or_opened, bounded}
 
 -- what the steps weigh for train t, and what all of them weigh
 abbrev weighed : Weights → ℕ → List Step → ℕ

@@ -2,13 +2,9 @@
 use Rattle.std.specs.Prelude.{ℕ, ◌+◌, ◌-◌, ◌==◌, Bool, true, false, not, ◌&&◌, ◌||◌, if◌then◌else◌, Option, None}
 use Rattle.rl_base.specs.declared.ids.BoxId.{BoxId}
 use Rattle.rl_base.specs.declared.ids.TrainId.{TrainId}
-use Rattle.rl_base.specs.declared.job.Job.{Job}
 use Rattle.rl_base.specs.declared.job.Verb.TheVariants as verbs
-use Rattle.rl_base.specs.declared.kind.Side.{Side}
-use Rattle.rl_base.specs.declared.kind.Side.TheVariants.{Left, Right}
 use Rattle.rl_words.specs.declared.lock.Path.{Path}
 use Rattle.rl_words.specs.declared.mail.Letter.{Letter}
-use Rattle.rl_words.specs.declared.mail.MailWord.TheVariants.{Yes, No}
 use Rattle.rl_words.specs.Mail.{about_passage}
 use Rattle.rl_tables.specs.declared.table.StepRow.{StepRow}
 use Rattle.rl_train.specs.declared.mind.TrainMind.{TrainMind}

@@ -1,5 +1,4 @@
 -- The node that makes each step, and the word that it changes.
-use Rattle.std.specs.Prelude.{◌-◌}
 use Rattle.rl_base.specs.declared.layout.NodeKind.{NodeKind}
 use Rattle.rl_base.specs.declared.layout.NodeKind.TheVariants as nodes
 use Rattle.rl_base.specs.declared.layout.WordKind.{WordKind}

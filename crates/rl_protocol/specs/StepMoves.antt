@@ -1,5 +1,5 @@
 -- The move of each step, for those that have one.
-use Rattle.std.specs.Prelude.{ℕ, ◌-◌, Option, Some, None, option_map}
+use Rattle.std.specs.Prelude.{ℕ, Option, Some, None, option_map}
 use Rattle.rl_base.specs.declared.ids.TrainId.{TrainId}
 use Rattle.rl_base.specs.declared.ids.SegId.{SegId}
 use Rattle.rl_base.specs.declared.ids.Arm.{Arm}
@@ -7,7 +7,6 @@ use Rattle.rl_base.specs.declared.job.Verb.{Verb}
 use Rattle.rl_base.specs.declared.job.Verb.TheVariants as verbs
 use Rattle.rl_base.specs.Kind.{joining_side}
 use Rattle.rl_words.specs.declared.mail.Letter.{Letter}
-use Rattle.rl_words.specs.declared.mail.MailWord.TheVariants.{No}
 use Rattle.rl_model.specs.declared.moves.Move.{Move}
 use Rattle.rl_model.specs.declared.moves.Move.TheVariants as moves
 use Rattle.rl_protocol.specs.Line.{Line}

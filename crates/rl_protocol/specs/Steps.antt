@@ -1,5 +1,5 @@
 -- The steps of all nodes, one label for each way a step can go: the state that it fits, and the state that it leaves.
-use Rattle.std.specs.Prelude.{◌≡◌, ◌≢◌, ℕ, ◌+◌, ◌-◌, true, false, Some, None}
+use Rattle.std.specs.Prelude.{◌≡◌, ◌≢◌, ℕ, ◌+◌, true, false, Some, None}
 use Rattle.rl_base.specs.declared.ids.TrainId.{TrainId}
 use Rattle.rl_base.specs.declared.job.Job.{Job}
 use Rattle.rl_base.specs.declared.job.Verb.TheVariants as verbs
@@ -115,9 +115,11 @@ next line s (hear_yes t l) =
 next line s (hear_no t l u job) =
     record s { trains = put s.trains t (denied job (s.trains t)); mail = put s.mail t Empty }
 next line s (go t) =
-    record s { trains = put s.trains t (record (s.trains t) { waits = true }); run = put s.run t (Go (s.trains t).step) }
+    let m = s.trains t in
+    record s { trains = put s.trains t (record m { waits = true }); run = put s.run t (Go m.step) }
 next line s (quiet t) =
-    record s { trains = put s.trains t (passed line t (s.trains t)); sense = put s.sense t (Quiet ((s.trains t).step + 1)) }
+    let m = s.trains t in
+    record s { trains = put s.trains t (passed line t m); sense = put s.sense t (Quiet (m.step + 1)) }
 next line s (take b t l) = record s { boxes = with_work s b (Serve (train t) l); mail = put s.mail t (Taken l) }
 next line s (grant b t l) =
     record s { boxes = saying s b t l answers.Yes; resv = put_at s.resv b l.x.0 (Some (train t)) }
@@ -126,7 +128,8 @@ next line s (release b t l) = record s { boxes = saying s b t l answers.Yes; res
 next line s (lock_now b t l side) =
     record s { boxes = saying s b t l answers.Yes; lock = put s.lock b (Locked (path_of (train t) l)) }
 next line s (lock_ask b t l side) =
-    let p = path_of (train t) l in record s { boxes = put s.boxes b (box_at Ready (Some p)); lock = put s.lock b (Asked p) }
+    let p = path_of (train t) l in
+    record s { boxes = put s.boxes b (box_at Ready (Some p)); lock = put s.lock b (Asked p) }
 next line s (lock_moved b p) =
     record s {
       boxes = put s.boxes b (box_at (Say p.train (letter_of_path b p) answers.Yes) None);

@@ -1,5 +1,5 @@
 -- The world of a state: what the words say of trains, segments and boxes of a network.
-use Rattle.std.specs.Prelude.{◌≡◌, ℕ, ◌+◌, ◌<◌, ◌==◌, Bool, true, false, ◌&&◌, ◌||◌, if◌then◌else◌, Option, Some, None, unwrap_or}
+use Rattle.std.specs.Prelude.{◌≡◌, ℕ, ◌+◌, ◌<◌, ◌==◌, Bool, false, ◌&&◌, ◌||◌, if◌then◌else◌, Option, Some, None, unwrap_or}
 use Rattle.std.specs.Option.{option_map_or}
 use Rattle.rl_base.specs.declared.kind.Kind.{Kind}
 use Rattle.rl_base.specs.declared.kind.Kind.TheVariants.{Buffer, Joint, Point, Crossing}
