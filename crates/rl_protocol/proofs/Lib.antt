@@ -24,3 +24,4 @@ pub mod Resting
 pub mod Ranks
 pub mod Counted
 pub mod Totals
+pub mod ExampleRun

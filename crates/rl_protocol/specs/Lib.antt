@@ -13,3 +13,4 @@ pub mod Refusals
 pub mod AtWork
 pub mod Rest
 pub mod Counts
+pub mod Examples

@@ -5,6 +5,7 @@
 //! no code besides, and knows nothing of packed words, of stamps, of tables or of threads.
 #![tactic(auto)]
 
+pub mod examples;
 pub mod laws;
 
 pub use laws::{
