@@ -4,6 +4,13 @@
 //! that step. A train looks into its own table and at one word; it sees no box and no other train.
 #![tactic(auto)]
 
+mod jobs;
+pub mod laws;
 pub mod mind;
+mod steps;
 
+pub use laws::{train_lines, train_steps, usable_tables};
 pub use mind::TrainMind;
+
+#[cfg(test)]
+mod tests;
