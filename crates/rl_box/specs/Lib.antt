@@ -1,1 +1,2 @@
 pub mod Mind
+pub mod Steps
