@@ -3,3 +3,4 @@ pub mod Step
 pub mod State
 pub mod Run
 pub mod Turn
+pub mod Sound
