@@ -1,1 +1,6 @@
 pub mod Numbering
+pub mod Options
+pub mod Starts
+pub mod Made
+pub mod Beginning
+pub mod Sounding
