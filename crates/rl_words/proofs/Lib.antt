@@ -4,4 +4,6 @@ mod MailLemmas
 mod Options
 mod OwnerLemmas
 mod PackingLemmas
+mod ReadingLemmas
 mod ResvLemmas
+mod WordLemmas

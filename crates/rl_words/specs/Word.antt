@@ -68,3 +68,18 @@ word_owner (Sense t v) = sense_owner t v
 -- what a node does with a word and what it then has in mind, said of the payloads
 abbrev pub packed_step : {M : Type 0} → (Word → Option (Word × M)) → WordKind → ℕ → Option (ℕ × M)
 packed_step on kind n = option_and_then (λ word. option_map (λ r. (packed_word r.0, r.1)) (on word)) (read_word kind n)
+
+-- the payload is a packing of a word of the kind
+pub record IsReading (kind : WordKind) (payload : ℕ) (word : Word) : Type 0 where
+  pub kind_is : kind_of word ≡ kind
+  pub fits : FitsWord word
+  pub packed : packed_word word ≡ payload
+
+-- a step said of payloads: the payload reads as the word that the node sees, and the new one is the packing of what
+-- the step leaves there
+pub record PackedStep {M : Type 0} (Step : Word → Word → M → Type 0) (kind : WordKind) (payload new : ℕ) (after : M) : Type 0 where
+  pub seen : Word
+  pub left : Word
+  pub reads : read_word kind payload ≡ Some seen
+  pub step : Step seen left after
+  pub packs : packed_word left ≡ new
