@@ -3,4 +3,3 @@ pub mod Options
 pub mod Starts
 pub mod Made
 pub mod Beginning
-pub mod Sounding

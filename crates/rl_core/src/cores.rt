@@ -1,0 +1,119 @@
+ghost use Rattle.std.specs.Prelude.{◌≡◌, length, ◌+◌, ◌<◌, ◌≤◌, ◌^◌, slice_get, slice_index_or, Some, IfOk};
+ghost use Rattle.rl_base.specs.Layout.{node_count, word_count};
+ghost use Rattle.rl_words.specs.Stamps.{payload_in};
+ghost use Rattle.rl_tables.specs.Starts.{layout_of};
+ghost use Rattle.rl_runs.specs.Step.{node_step};
+ghost use Rattle.rl_runs.specs.Turn.{start_drive};
+ghost use Rattle.rl_core.specs.Cores.{state_of, LeadsTo, IsReached};
+ghost use Rattle.rl_core.specs.Made.{event_in, made, advanced};
+
+use crate::starts::{start_minds, start_words, zeros};
+use rl_base::{NoMemory, NodeNo, WordNo};
+use rl_record::Event;
+use rl_runs::Mind;
+use rl_tables::Line;
+use rl_words::{stamp_of, word_of};
+use std::alloc::Global;
+use std::marker::Model;
+
+/// All words of a line, the minds and clocks of its nodes, and the places at which its boxes scan. Contracts see it
+/// as these tables, and as the run that led to them.
+#[derive(Debug, Drop)]
+pub struct Core<'a> {
+    line: &'a Line,
+    tries: u32,
+    words: Vec<u64>,
+    minds: Vec<Mind>,
+    clocks: Vec<u32>,
+    scans: Vec<u32>,
+    events: u64,
+}
+
+impl<'a> Model for Core<'a> {
+    ghost use Rattle.rl_core.specs.Cores.{Core, IsReached};
+
+    ghost Value = { Core };
+
+    ghost view = { λ c. record { line = c.line.now; tries = c.tries; words = c.words.items; minds = c.minds.items; clocks = c.clocks.items; scans = c.scans.items; events = c.events } };
+
+    ghost invariant = { λ c. IsReached (record { line = c.line.now; tries = c.tries; words = c.words.items; minds = c.minds.items; clocks = c.clocks.items; scans = c.scans.items; events = c.events }) };
+}
+
+impl<'a> Core<'a> {
+    /// The start: the words as the line has them, every mind at its start with so many tries, every clock at 0, and
+    /// each box at its first scan place.
+    pub fn new(alloc: Global, line: &'a Line, tries: u32) -> Result<Core<'a>, NoMemory>
+        requires some_tries { 1 ≤ tries }
+        requires few_tries { tries ≤ 1000 }
+        ensures start { IfOk result (LeadsTo start_drive) }
+        ensures line { IfOk result (λ core. core.line ≡ line.now) }
+        ensures tries { IfOk result (λ core. core.tries ≡ tries) }
+    {
+        let words = start_words(alloc, line)?;
+        let minds = start_minds(alloc, line, tries)?;
+        let clocks = zeros(alloc, line)?;
+        let scans = zeros(alloc, line)?;
+        Ok(Core {
+            line,
+            tries,
+            words,
+            minds,
+            clocks,
+            scans,
+            events: 0,
+        })
+    }
+
+    /// The line on which the core runs.
+    pub fn line(&self) -> &Line
+        ensures { result.now ≡ self.now.line }
+    {
+        self.line
+    }
+
+    /// How many events were made so far.
+    pub fn events(&self) -> u64
+        ensures { result ≡ self.now.events }
+    {
+        self.events
+    }
+
+    /// Some run leads to the core.
+    pub(crate) fn reached(&self)
+        ensures { IsReached self.now }
+    {
+        let _events = &self.events;
+    }
+
+    pub(crate) fn word_at(&self, w: WordNo) -> u64
+        requires { w.0 < length self.now.words }
+        ensures { slice_get self.now.words w.0 ≡ Some result }
+    {
+        self.words[w.0 as usize]
+    }
+
+    /// The word with its stamp.
+    pub fn word(&self, w: WordNo) -> u64
+        requires { w.0 < word_count (layout_of self.now.line) }
+        ensures { slice_get self.now.words w.0 ≡ Some result }
+    {
+        self.reached();
+        self.word_at(w)
+    }
+
+    /// The mind of the node.
+    pub(crate) fn mind_at(&self, n: NodeNo) -> &Mind
+        requires { n.0 < length self.now.minds }
+        ensures { slice_get self.now.minds n.0 ≡ Some result.now }
+    {
+        &self.minds[n.0 as usize]
+    }
+
+    /// The place at which the box of the node scans.
+    pub(crate) fn scan_at(&self, n: NodeNo) -> u32
+        requires { n.0 < length self.now.scans }
+        ensures { slice_get self.now.scans n.0 ≡ Some result }
+    {
+        self.scans[n.0 as usize]
+    }
+}
