@@ -4,6 +4,8 @@
 //! that step. A train looks into its own table and at one word; it sees no box and no other train.
 #![tactic(auto)]
 
+mod jobs;
 pub mod mind;
+mod steps;
 
 pub use mind::TrainMind;

@@ -1,4 +1,5 @@
 mod FieldLemmas
+mod LetterLemmas
 mod LockLemmas
 mod MailLemmas
 mod Options

@@ -1,4 +1,4 @@
-ghost use Rattle.std.specs.Prelude.{◌≡◌, ◌≢◌, ℕ, ◌+◌, ◌*◌, ◌^◌, ◌<◌, ◌≤◌, Option};
+ghost use Rattle.std.specs.Prelude.{◌≡◌, ◌≢◌, ℕ, ◌+◌, ◌*◌, ◌^◌, ◌<◌, ◌≤◌, true, Option};
 ghost use Rattle.rl_base.specs.declared.ids.TrainId.{TrainId};
 ghost use Rattle.rl_base.specs.declared.layout.Layout.{Layout};
 ghost use Rattle.rl_words.specs.declared.lock.LockWord.{LockWord};
@@ -8,7 +8,8 @@ ghost use Rattle.rl_words.specs.declared.run.RunWord.{RunWord};
 ghost use Rattle.rl_words.specs.declared.sense.SenseWord.{SenseWord};
 ghost use Rattle.rl_words.specs.Fields.{field, with_field};
 ghost use Rattle.rl_words.specs.Lock.{FitsLock, packed_lock};
-ghost use Rattle.rl_words.specs.Mail.{FitsMail, packed_mail};
+ghost use Rattle.rl_words.specs.Mail.{FitsMail, packed_mail, same_letter};
+ghost use Rattle.rl_words.specs.declared.mail.Letter.{Letter};
 ghost use Rattle.rl_words.specs.Owner.{Owns};
 ghost use Rattle.rl_words.specs.Resv.{FitsArm, FitsResv, arm_code, packed_resv, arm_in, with_arm};
 ghost use Rattle.rl_words.specs.Run.{FitsRun, packed_run};
@@ -64,6 +65,12 @@ pub fn one_owner()
     // No two words have one number, for the proof.
     numberings();
 }
+
+/// Letters that are compared field by field are one.
+pub fn letters()
+    ensures same { (a b : Letter) → same_letter a b ≡ true → a ≡ b }
+    ensures itself { (a : Letter) → same_letter a a ≡ true }
+{}
 
 /// Exactly a packing is read, as the value of which it is the packing.
 pub fn readings()

@@ -1,7 +1,7 @@
 ghost use Rattle.std.specs.Prelude.{◌≡◌, ◌≢◌, ◌+◌, ◌*◌, ◌%◌, ◌^◌, ◌<◌, ◌≤◌, ◌↔◌, IsTrue, IfSome, IfNone};
 ghost use Rattle.rl_words.specs.declared.mail.Letter.{Letter};
 ghost use Rattle.rl_words.specs.declared.mail.MailWord.{MailWord};
-ghost use Rattle.rl_words.specs.Mail.{FitsArms, FitsLetter, IsRefusable, FitsMail, verb_code, packed_letter, packed_mail};
+ghost use Rattle.rl_words.specs.Mail.{FitsArms, FitsLetter, IsRefusable, FitsMail, verb_code, same_letter, packed_letter, packed_mail};
 ghost use Rattle.rl_words.specs.Readings.{read_mail};
 
 use crate::field::{field, put};
@@ -118,6 +118,18 @@ fn mail_of(payload: u32) -> Option<MailWord>
             TrainId(above),
         )),
         _ => None,
+    }
+}
+
+impl Letter {
+    /// Whether the two letters are one.
+    pub fn is_same(&self, other: &Letter) -> bool
+        ensures { result ≡ same_letter self.now other.now }
+    {
+        self.to.0 == other.to.0
+            && verb_code(self.verb) == verb_code(other.verb)
+            && self.x.0 == other.x.0
+            && self.y.0 == other.y.0
     }
 }
 
