@@ -4,10 +4,6 @@
 //! step. A box looks into its own table and at one word; it sees no other box and no train.
 #![tactic(auto)]
 
-mod mail;
 pub mod mind;
-mod points;
-mod reservations;
-mod steps;
 
 pub use mind::{Answer, BoxMind, Work};

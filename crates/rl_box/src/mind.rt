@@ -1,7 +1,5 @@
 ghost use Rattle.std.specs.Prelude.{◌≡◌};
-ghost use Rattle.rl_base.specs.declared.layout.Layout.{Layout};
-ghost use Rattle.rl_tables.specs.declared.table.BoxTable.{BoxTable};
-ghost use Rattle.rl_box.specs.Mind.{start_box, IsBoxMind};
+ghost use Rattle.rl_box.specs.Mind.{start_box};
 
 use rl_base::TrainId;
 use rl_words::{Letter, Path};
@@ -32,8 +30,7 @@ pub struct BoxMind {
 impl BoxMind {
     /// Ready, with nothing waiting.
     pub fn start() -> BoxMind
-        ensures mind { result ≡ start_box }
-        ensures kept { (lay : Layout) (b : BoxTable) → IsBoxMind lay b result }
+        ensures { result ≡ start_box }
     {
         BoxMind {
             work: Work::Ready,

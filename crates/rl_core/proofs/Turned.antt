@@ -78,3 +78,23 @@ leads_advanced core drive n there leads =
     put_same f n v = grind (arith, nat_tests)
     put_other : (f : ℕ → ℕ) (n v m : ℕ) → (m ≡ n → ⊥) → put f n v m ≡ f m
     put_other f n v m other = rw (ne_eqb m n other) refl
+
+-- the turn of the definition, by what the node sees
+turn_looked : (core : Core) (drive : Drive) (n scan : ℕ) (look : Look) → LeadsTo drive core → drive.scans n ≡ scan → IsLook core.line (state_of core) n scan look → turn_of core.line core.tries drive n ≡ record { events = looked core drive.events n look; scans = scanned core.line drive n ((state_of core).minds n) }
+turn_looked core drive n scan look leads same is = rw (leads.state, events_looked core drive n scan look same is) refl
+
+pub answer_is : (core : Core) (drive : Drive) (n scan : ℕ) (look : Look) → LeadsTo drive core → drive.scans n ≡ scan → IsLook core.line (state_of core) n scan look → answer_of core.line core.tries drive n ≡ answer_to core n look
+answer_is core drive n scan look leads same is = rw leads.state (answer_looked core drive n scan look same is)
+
+leads_by : (ready : Bool) (core : Core) (drive : Drive) (n scan : ℕ) (look : Look) → HasSizes core → n < node_count (layout_of core.line) → LeadsTo drive core → IsLook core.line (state_of core) n scan look → LeadsTo (record { events = looked core drive.events n look; scans = if ready then put drive.scans n (next_place core.line (drive.scans n)) else drive.scans }) (if ready then advanced (after_look core n look) n else after_look core n look)
+leads_by false core drive n scan look sizes there leads is = leads_looked core drive n scan look sizes there leads is
+leads_by true core drive n scan Rests sizes there leads is = leads_advanced core drive n there leads
+leads_by true core drive n scan (Idles w was) sizes there leads is = leads_advanced core drive n there leads
+leads_by true core drive n scan (Steps w was payload mind) sizes there leads is =
+    leads_advanced (made core n w.0 was payload mind) (record drive { events = event_in core n w.0 was payload ∷ drive.events }) n there
+      (leads_looked core drive n scan (Steps w was payload mind) sizes there leads is)
+
+pub leads_turned : (core : Core) (drive : Drive) (n scan : ℕ) (look : Look) → HasSizes core → n < node_count (layout_of core.line) → LeadsTo drive core → drive.scans n ≡ scan → IsLook core.line (state_of core) n scan look → LeadsTo (turn_of core.line core.tries drive n) (after_turn core n look)
+leads_turned core drive n scan look sizes there leads same is =
+    rw (turn_looked core drive n scan look leads same is)
+      (leads_by (is_ready ((state_of core).minds n)) core drive n scan look sizes there leads is)
