@@ -1,0 +1,8 @@
+//! The protocol as a whole: every state that the nodes can come to, in whatever order they make their steps.
+//!
+//! It gives upward the state of all minds and words, the steps that fit it, what holds in every state, and that
+//! the moves of the steps are a safe run; each law is the contract of a function with an empty body. It has no code besides, and
+//! knows nothing of packed words, of stamps, of tables or of threads.
+#![tactic(auto)]
+
+pub mod laws;
