@@ -1,0 +1,3 @@
+pub mod Railway
+pub mod Reading
+pub mod Moves
