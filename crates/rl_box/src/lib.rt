@@ -4,6 +4,12 @@
 //! step. A box looks into its own table and at one word; it sees no other box and no train.
 #![tactic(auto)]
 
+pub mod laws;
+mod mail;
 pub mod mind;
+mod points;
+mod reservations;
+mod steps;
 
+pub use laws::{box_glances, box_lines, box_steps};
 pub use mind::{Answer, BoxMind, Work};

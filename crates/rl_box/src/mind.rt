@@ -1,5 +1,7 @@
 ghost use Rattle.std.specs.Prelude.{◌≡◌};
-ghost use Rattle.rl_box.specs.Mind.{start_box};
+ghost use Rattle.rl_base.specs.declared.layout.Layout.{Layout};
+ghost use Rattle.rl_tables.specs.declared.table.BoxTable.{BoxTable};
+ghost use Rattle.rl_box.specs.Mind.{start_box, IsBoxMind};
 
 use rl_base::TrainId;
 use rl_words::{Letter, Path};
@@ -30,7 +32,8 @@ pub struct BoxMind {
 impl BoxMind {
     /// Ready, with nothing waiting.
     pub fn start() -> BoxMind
-        ensures { result ≡ start_box }
+        ensures mind { result ≡ start_box }
+        ensures kept { (lay : Layout) (b : BoxTable) → IsBoxMind lay b result }
     {
         BoxMind {
             work: Work::Ready,

@@ -4,6 +4,7 @@ mod LockLemmas
 mod MailLemmas
 mod Options
 mod OwnerLemmas
+pub mod PackedSteps
 mod PackingLemmas
 mod ReadingLemmas
 mod ResvLemmas
