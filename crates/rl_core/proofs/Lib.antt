@@ -1,3 +1,4 @@
 pub mod Onward
 pub mod Started
 pub mod Turned
+pub mod Looking

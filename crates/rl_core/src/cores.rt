@@ -4,7 +4,9 @@ ghost use Rattle.rl_words.specs.Stamps.{payload_in};
 ghost use Rattle.rl_tables.specs.Starts.{layout_of};
 ghost use Rattle.rl_runs.specs.Step.{node_step};
 ghost use Rattle.rl_runs.specs.Turn.{start_drive};
-ghost use Rattle.rl_core.specs.Cores.{state_of, LeadsTo, IsReached};
+ghost use Rattle.rl_tables.specs.Kept.{IsLine};
+ghost use Rattle.rl_runs.specs.Sound.{IsSound};
+ghost use Rattle.rl_core.specs.Cores.{state_of, LeadsTo, HasSizes, IsReached};
 ghost use Rattle.rl_core.specs.Made.{event_in, made, advanced};
 
 use crate::starts::{start_minds, start_words, zeros};
@@ -14,6 +16,7 @@ use rl_runs::Mind;
 use rl_tables::Line;
 use rl_words::{stamp_of, word_of};
 use std::alloc::Global;
+use std::cmp::max;
 use std::marker::Model;
 
 /// All words of a line, the minds and clocks of its nodes, and the places at which its boxes scan. Contracts see it
@@ -115,5 +118,50 @@ impl<'a> Core<'a> {
         ensures { slice_get self.now.scans n.0 ≡ Some result }
     {
         self.scans[n.0 as usize]
+    }
+
+    /// What is so of the core's state, whatever run led to it.
+    pub(crate) fn sound(&self)
+        requires { self.now.events < 2 ^ 32 }
+        ensures sound { IsSound self.now.line self.now.events (state_of self.now) }
+        ensures sizes { HasSizes self.now }
+        ensures line { IsLine self.now.line }
+    {
+        let _events = &self.events;
+    }
+
+    /// Makes the step of the node on the word: the word, the mind and the clock of the node are new.
+    pub(crate) fn step(&mut self, node: NodeNo, w: WordNo, was: u64, payload: u32, mind: Mind) -> Event
+        requires there { node.0 < node_count (layout_of self.old.line) }
+        requires few { self.old.events < 4294967295 }
+        requires word { slice_get self.old.words w.0 ≡ Some was }
+        requires step { node_step self.old.line node.0 ((state_of self.old).minds node.0) w.0 (payload_in was) ≡ Some (payload, mind) }
+        ensures core { self.new ≡ made self.old node.0 w.0 was payload mind }
+        ensures event { result ≡ event_in self.old node.0 w.0 was payload }
+    {
+        let n = node.0 as usize;
+        let stamp = max(self.clocks[n], stamp_of(was)) + 1;
+        let now = word_of(stamp, payload);
+        self.words[w.0 as usize] = now;
+        self.minds[n] = mind;
+        self.clocks[n] = stamp;
+        self.events += 1;
+        Event {
+            node,
+            stamp,
+            word: w,
+            was,
+            now,
+        }
+    }
+
+    /// The box of the node goes on to its next scan place.
+    pub(crate) fn advance(&mut self, node: NodeNo)
+        requires { node.0 < node_count (layout_of self.old.line) }
+        ensures { self.new ≡ advanced self.old node.0 }
+    {
+        let places = self.line.layout().trains + 1;
+        let n = node.0 as usize;
+        self.scans[n] = (self.scans[n] + 1) % places;
     }
 }

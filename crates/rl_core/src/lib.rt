@@ -7,6 +7,7 @@
 pub mod cores;
 mod look;
 mod starts;
+mod turns;
 
 pub use cores::Core;
 pub use rl_runs::Mind;

@@ -99,3 +99,73 @@ impl<'a> Core<'a> {
         }
     }
 }
+
+/// Whether the mind is that of a box that has nothing in hand.
+fn is_ready(mind: &Mind) -> bool
+    ensures { result ≡ is_ready mind.now }
+{
+    match mind {
+        Mind::Box(mind) => matches!(mind.work, Work::Ready),
+        Mind::Train(_) | Mind::Track(_) | Mind::Machine(_) => false,
+    }
+}
+
+impl<'a> Core<'a> {
+    /// What the node sees at its target.
+    fn look(&self, node: NodeNo) -> Look
+        requires there { node.0 < node_count (layout_of self.now.line) }
+        requires few { self.now.events < 2 ^ 32 }
+        ensures { IsLook self.now.line (state_of self.now) node.0 (slice_index_or self.now.scans node.0 0) result }
+    {
+        self.sound();
+        numbered();
+        let scan = self.scan_at(node);
+        match (self.line().layout().node_kind(node), self.mind_at(node)) {
+            (NodeKind::Train(t), Mind::Train(mind)) => self.look_train(node, t, mind),
+            (NodeKind::Track(t), Mind::Track(mind)) => self.look_track(node, t, mind),
+            (NodeKind::Box(b), Mind::Box(mind)) => self.look_box(node, b, mind, scan),
+            (NodeKind::Machine(b), Mind::Machine(mind)) => self.look_machine(node, b, mind),
+            _ => unreachable!(),
+        }
+    }
+
+    /// Changes what the step of the look changes, and says what the turn came to.
+    fn make(&mut self, node: NodeNo, look: Look) -> Turn
+        requires there { node.0 < node_count (layout_of self.old.line) }
+        requires few { self.old.events < 4294967295 }
+        requires look { (scan : ℕ) × IsLook self.old.line (state_of self.old) node.0 scan look }
+        ensures core { self.new ≡ after_look self.old node.0 look }
+        ensures answer { result ≡ answer_to self.old node.0 look }
+    {
+        match look {
+            Look::Rests => Turn::Rest,
+            Look::Idles(_, was) => Turn::Idle(was),
+            Look::Steps(w, was, payload, mind) => {
+                Turn::Moved(self.step(node, w, was, payload, mind))
+            }
+        }
+    }
+
+    /// One turn of the node: it looks at its target, and makes the step there, if it has one. Moved has the event;
+    /// Idle has the whole word on which the node has no step; Rest comes exactly for a train at rest. Full never
+    /// comes. A ready box goes on to its next scan place in any case: the mail words of all trains in order, and then
+    /// its lock word. An event's stamp is one more than the greater of the node's clock and the word's stamp (Lamport
+    /// 1978), and the node's clock is then that stamp. It takes no memory.
+    pub fn turn(&mut self, node: NodeNo) -> Turn
+        requires there { node.0 < node_count (layout_of self.old.line) }
+        requires few { self.old.events < 4294967295 }
+        ensures turned { (d : Drive) → LeadsTo d self.old → LeadsTo (turn_of self.old.line self.old.tries d node.0) self.new }
+        ensures answer { (d : Drive) → LeadsTo d self.old → result ≡ answer_of self.old.line self.old.tries d node.0 }
+        ensures line { self.new.line ≡ self.old.line }
+        ensures tries { self.new.tries ≡ self.old.tries }
+    {
+        self.reached();
+        let look = self.look(node);
+        let ready = is_ready(self.mind_at(node));
+        let answer = self.make(node, look);
+        if ready {
+            self.advance(node);
+        }
+        answer
+    }
+}
