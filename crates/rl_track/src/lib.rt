@@ -4,8 +4,10 @@
 //! step. Neither has a table.
 #![tactic(auto)]
 
+pub mod laws;
 pub mod machine;
 pub mod track;
 
+pub use laws::{machine_lines, machine_steps, track_lines, track_steps};
 pub use machine::MachineMind;
 pub use track::{TrackMind, TrackPhase};

@@ -5,7 +5,9 @@
 #![tactic(auto)]
 
 mod jobs;
+pub mod laws;
 pub mod mind;
 mod steps;
 
+pub use laws::{train_lines, train_steps, usable_tables};
 pub use mind::TrainMind;
