@@ -21,3 +21,6 @@ get_set_other (x ∷ xs) zero zero y other = absurd (other refl)
 get_set_other (x ∷ xs) zero (suc j) y other = refl
 get_set_other (x ∷ xs) (suc i) zero y other = refl
 get_set_other (x ∷ xs) (suc i) (suc j) y other = get_set_other xs i j y (λ same. other (ap suc same))
+
+pub same_some : {A : Type 0} (o : Option A) (x y : A) → o ≡ Some x → o ≡ Some y → x ≡ y
+same_some o x y a b = cc

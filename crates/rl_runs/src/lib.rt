@@ -8,5 +8,5 @@
 pub mod laws;
 pub mod mind;
 
-pub use laws::numbered;
+pub use laws::{numbered, sound_runs, steps_of_owners};
 pub use mind::Mind;
