@@ -1,5 +1,6 @@
 -- What the look at a target comes to, from what the mind's own calls answer.
-use Rattle.std.proofs.Common.{◌≡◌, ℕ, ◌<◌, ◌≤◌, Option, Some, None, option_map, option_and_then, slice_get, length, refl, sym, ap, ◌∙◌, subst, arith}
+use Rattle.std.proofs.Common.{◌≡◌, ℕ, ◌<◌, ◌≤◌, List, slice_index_or, Option, Some, None, option_map, option_and_then, slice_get, length, refl, sym, ap, ◌∙◌, subst, arith}
+use Rattle.std.proofs.lemmas.Option.{get_or_from_slice_get}
 use Rattle.rl_base.specs.declared.ids.BoxId.{BoxId}
 use Rattle.rl_base.specs.declared.ids.TrainId.{TrainId}
 use Rattle.rl_base.specs.declared.layout.Layout.{Layout}
@@ -14,6 +15,7 @@ use Rattle.rl_tables.specs.declared.table.TrainTable.{TrainTable}
 use Rattle.rl_tables.specs.Kept.{IsLine}
 use Rattle.rl_tables.specs.Starts.{layout_of}
 use Rattle.rl_train.specs.declared.mind.TrainMind.{TrainMind}
+use Rattle.rl_train.specs.Mind.{IsTrainMind}
 use Rattle.rl_train.specs.Steps.{train_step, train_target}
 use Rattle.rl_box.specs.declared.mind.BoxMind.{BoxMind}
 use Rattle.rl_box.specs.Mind.{IsBoxMind}
@@ -29,6 +31,7 @@ use Rattle.rl_runs.specs.Sound.{IsSound, IsMindOf}
 use Rattle.rl_runs.specs.Step.{node_step, as_mind, target_of}
 use Rattle.rl_runs.specs.State.{CoreState}
 use Rattle.rl_runs.proofs.Acts.{train_looks, train_acts, track_looks, track_acts, box_looks, box_acts, machine_looks, machine_acts}
+use Rattle.rl_core.specs.Cores.{Core, state_of}
 use Rattle.rl_core.specs.Looks.{Sees}
 
 -- a node that looks at a word, and what its step there comes to
@@ -76,3 +79,53 @@ track_sound tables c k n t m sound at is =
     let here : IsMindOf tables (nodes.Track t) (c.minds n) = sound.minds n (nodes.Track t) at in
     let P : Mind → Type 0 = λ mind. IsMindOf tables (nodes.Track t) mind in
     subst P is here
+
+pub train_sound : (tables : Tables) (c : CoreState) (k n : ℕ) (t : TrainId) (x : TrainTable) (m : TrainMind) → IsSound tables k c → node_at (layout_of tables) n ≡ Some (nodes.Train t) → c.minds n ≡ Train m → slice_get tables.trains t.0 ≡ Some x → IsTrainMind x m
+train_sound tables c k n t x m sound at is there =
+    let here : IsMindOf tables (nodes.Train t) (c.minds n) = sound.minds n (nodes.Train t) at in
+    let P : Mind → Type 0 = λ mind. IsMindOf tables (nodes.Train t) mind in
+    let mine : IsMindOf tables (nodes.Train t) (Train m) = subst P is here in
+    mine x there
+
+-- the mind of a node is one of its kind
+other_than_train : (tables : Tables) (t : TrainId) (mind : Mind) → IsMindOf tables (nodes.Train t) mind → (m : TrainMind) × (mind ≡ Train m)
+other_than_train tables t (Train m) is = (m, refl)
+other_than_train tables t (Track m) is = absurd is
+other_than_train tables t (Box m) is = absurd is
+other_than_train tables t (Machine m) is = absurd is
+
+other_than_track : (tables : Tables) (t : TrainId) (mind : Mind) → IsMindOf tables (nodes.Track t) mind → (m : TrackMind) × (mind ≡ Track m)
+other_than_track tables t (Train m) is = absurd is
+other_than_track tables t (Track m) is = (m, refl)
+other_than_track tables t (Box m) is = absurd is
+other_than_track tables t (Machine m) is = absurd is
+
+other_than_box : (tables : Tables) (b : BoxId) (mind : Mind) → IsMindOf tables (nodes.Box b) mind → (m : BoxMind) × (mind ≡ Box m)
+other_than_box tables b (Train m) is = absurd is
+other_than_box tables b (Track m) is = absurd is
+other_than_box tables b (Box m) is = (m, refl)
+other_than_box tables b (Machine m) is = absurd is
+
+other_than_machine : (tables : Tables) (b : BoxId) (mind : Mind) → IsMindOf tables (nodes.Machine b) mind → (m : MachineMind) × (mind ≡ Machine m)
+other_than_machine tables b (Train m) is = absurd is
+other_than_machine tables b (Track m) is = absurd is
+other_than_machine tables b (Box m) is = absurd is
+other_than_machine tables b (Machine m) is = (m, refl)
+
+-- what is so of the mind in the table
+mind_there : (tables : Tables) (c : CoreState) (k n : ℕ) (node : NodeKind) (minds : List Mind) (mind : Mind) → IsSound tables k c → node_at (layout_of tables) n ≡ Some node → c.minds n ≡ slice_index_or minds n (Machine record {}) → slice_get minds n ≡ Some mind → IsMindOf tables node mind
+mind_there tables c k n node minds mind sound at is there =
+    let found : c.minds n ≡ mind = is ∙ get_or_from_slice_get minds n mind (Machine record {}) there in
+    subst (λ (m : Mind). IsMindOf tables node m) found (sound.minds n node at)
+
+pub train_there : (core : Core) (n : ℕ) (t : TrainId) (mind : Mind) → IsSound core.line core.events (state_of core) → node_at (layout_of core.line) n ≡ Some (nodes.Train t) → slice_get core.minds n ≡ Some mind → (m : TrainMind) × (mind ≡ Train m)
+train_there core n t mind sound at there = other_than_train core.line t mind (mind_there core.line (state_of core) core.events n (nodes.Train t) core.minds mind sound at refl there)
+
+pub track_there : (core : Core) (n : ℕ) (t : TrainId) (mind : Mind) → IsSound core.line core.events (state_of core) → node_at (layout_of core.line) n ≡ Some (nodes.Track t) → slice_get core.minds n ≡ Some mind → (m : TrackMind) × (mind ≡ Track m)
+track_there core n t mind sound at there = other_than_track core.line t mind (mind_there core.line (state_of core) core.events n (nodes.Track t) core.minds mind sound at refl there)
+
+pub box_there : (core : Core) (n : ℕ) (b : BoxId) (mind : Mind) → IsSound core.line core.events (state_of core) → node_at (layout_of core.line) n ≡ Some (nodes.Box b) → slice_get core.minds n ≡ Some mind → (m : BoxMind) × (mind ≡ Box m)
+box_there core n b mind sound at there = other_than_box core.line b mind (mind_there core.line (state_of core) core.events n (nodes.Box b) core.minds mind sound at refl there)
+
+pub machine_there : (core : Core) (n : ℕ) (b : BoxId) (mind : Mind) → IsSound core.line core.events (state_of core) → node_at (layout_of core.line) n ≡ Some (nodes.Machine b) → slice_get core.minds n ≡ Some mind → (m : MachineMind) × (mind ≡ Machine m)
+machine_there core n b mind sound at there = other_than_machine core.line b mind (mind_there core.line (state_of core) core.events n (nodes.Machine b) core.minds mind sound at refl there)

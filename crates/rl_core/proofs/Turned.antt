@@ -98,3 +98,29 @@ pub leads_turned : (core : Core) (drive : Drive) (n scan : ℕ) (look : Look) �
 leads_turned core drive n scan look sizes there leads same is =
     rw (turn_looked core drive n scan look leads same is)
       (leads_by (is_ready ((state_of core).minds n)) core drive n scan look sizes there leads is)
+
+-- the core after the turn, by what the turn's calls leave
+pub turned_is : (core mid new : Core) (n : ℕ) (look : Look) (ready : Bool) → mid ≡ after_look core n look → ready ≡ is_ready ((state_of core).minds n) → new ≡ (if ready then advanced mid n else mid) → new ≡ after_turn core n look
+turned_is core mid new n look ready mid_is ready_is new_is = rw (new_is, mid_is, ready_is) refl
+
+pub line_kept : (core : Core) (n : ℕ) (look : Look) → (after_turn core n look).line ≡ core.line
+line_kept core n look = by (is_ready ((state_of core).minds n)) look
+  where
+    by : (ready : Bool) (look : Look) → (let mine : Core = if ready then advanced (after_look core n look) n else after_look core n look in mine.line) ≡ core.line
+    by false Rests = refl
+    by false (Idles w was) = refl
+    by false (Steps w was payload mind) = refl
+    by true Rests = refl
+    by true (Idles w was) = refl
+    by true (Steps w was payload mind) = refl
+
+pub tries_kept : (core : Core) (n : ℕ) (look : Look) → (after_turn core n look).tries ≡ core.tries
+tries_kept core n look = by (is_ready ((state_of core).minds n)) look
+  where
+    by : (ready : Bool) (look : Look) → (let mine : Core = if ready then advanced (after_look core n look) n else after_look core n look in mine.tries) ≡ core.tries
+    by false Rests = refl
+    by false (Idles w was) = refl
+    by false (Steps w was payload mind) = refl
+    by true Rests = refl
+    by true (Idles w was) = refl
+    by true (Steps w was payload mind) = refl

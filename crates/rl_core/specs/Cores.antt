@@ -49,6 +49,7 @@ pub record IsReached (core : Core) : Type 0 where
   pub drive : Drive
   pub leads : LeadsTo drive core
   pub sizes : HasSizes core
+  pub places : (n : ℕ) → n < node_count (layout_of core.line) → drive.scans n ≤ length core.line.trains
   pub line : IsLine core.line
   pub some_tries : 1 ≤ core.tries
   pub few_tries : core.tries ≤ 1000

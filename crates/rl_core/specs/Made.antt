@@ -15,15 +15,19 @@ stamp_of core n was = next_stamp (slice_index_or core.clocks n 0) was
 abbrev pub event_in : Core → ℕ → ℕ → ℕ → ℕ → Event
 event_in core n w was payload = event_at n (stamp_of core n was) w was payload
 
--- the core after it
-abbrev pub made : Core → ℕ → ℕ → ℕ → ℕ → Mind → Core
-made core n w was payload mind =
+-- the core with word w, and with the mind and the clock of node n, after one more event
+abbrev pub put_in : Core → (n w now stamp : ℕ) → Mind → Core
+put_in core n w now stamp mind =
     record core {
-      words = slice_set core.words w (stamped (stamp_of core n was) payload);
+      words = slice_set core.words w now;
       minds = slice_set core.minds n mind;
-      clocks = slice_set core.clocks n (stamp_of core n was);
+      clocks = slice_set core.clocks n stamp;
       events = core.events + 1;
     }
+
+-- the core after the event
+abbrev pub made : Core → ℕ → ℕ → ℕ → ℕ → Mind → Core
+made core n w was payload mind = put_in core n w (stamped (stamp_of core n was) payload) (stamp_of core n was) mind
 
 -- the core with the next scan place of node n
 abbrev pub advanced : Core → ℕ → Core

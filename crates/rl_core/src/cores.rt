@@ -1,18 +1,19 @@
-ghost use Rattle.std.specs.Prelude.{◌≡◌, length, ◌+◌, ◌<◌, ◌≤◌, ◌^◌, slice_get, slice_index_or, Some, IfOk};
+ghost use Rattle.std.specs.Prelude.{◌≡◌, length, ◌+◌, ◌<◌, ◌≤◌, ◌^◌, slice_get, slice_set, slice_index_or, Some, IfOk};
 ghost use Rattle.rl_base.specs.Layout.{node_count, word_count};
-ghost use Rattle.rl_words.specs.Stamps.{payload_in};
+ghost use Rattle.rl_words.specs.Stamps.{payload_in, stamp_in};
 ghost use Rattle.rl_tables.specs.Starts.{layout_of};
 ghost use Rattle.rl_runs.specs.Step.{node_step};
-ghost use Rattle.rl_runs.specs.Turn.{start_drive};
+ghost use Rattle.rl_runs.specs.State.{next_stamp};
+ghost use Rattle.rl_runs.specs.Turn.{start_drive, next_place};
 ghost use Rattle.rl_tables.specs.Kept.{IsLine};
 ghost use Rattle.rl_runs.specs.Sound.{IsSound};
 ghost use Rattle.rl_core.specs.Cores.{state_of, LeadsTo, HasSizes, IsReached};
-ghost use Rattle.rl_core.specs.Made.{event_in, made, advanced};
+ghost use Rattle.rl_core.specs.Made.{event_in, put_in, made, advanced};
 
 use crate::starts::{start_minds, start_words, zeros};
 use rl_base::{NoMemory, NodeNo, WordNo};
 use rl_record::Event;
-use rl_runs::Mind;
+use rl_runs::{Mind, sound_runs};
 use rl_tables::Line;
 use rl_words::{stamp_of, word_of};
 use std::alloc::Global;
@@ -127,7 +128,34 @@ impl<'a> Core<'a> {
         ensures sizes { HasSizes self.now }
         ensures line { IsLine self.now.line }
     {
-        let _events = &self.events;
+        sound_runs();
+        self.reached();
+    }
+
+    /// The stamp of the node's next event on a word that was this.
+    fn next_stamp(&self, node: NodeNo, was: u64) -> u32
+        requires there { node.0 < length self.now.clocks }
+        requires clock { slice_index_or self.now.clocks node.0 0 < 4294967295 }
+        requires word { stamp_in was < 4294967295 }
+        ensures { result ≡ next_stamp (slice_index_or self.now.clocks node.0 0) was }
+    {
+        max(self.clocks[node.0 as usize], stamp_of(was)) + 1
+    }
+
+    /// Writes a word, and the mind and the clock of a node.
+    fn put(&mut self, node: NodeNo, w: WordNo, now: u64, stamp: u32, mind: Mind)
+        requires sizes { HasSizes self.old }
+        requires node { node.0 < node_count (layout_of self.old.line) }
+        requires word { w.0 < word_count (layout_of self.old.line) }
+        requires few { self.old.events < 4294967295 }
+        requires reached { IsReached (put_in self.old node.0 w.0 now stamp mind) }
+        ensures { self.new ≡ put_in self.old node.0 w.0 now stamp mind }
+    {
+        let n = node.0 as usize;
+        self.words[w.0 as usize] = now;
+        self.minds[n] = mind;
+        self.clocks[n] = stamp;
+        self.events += 1;
     }
 
     /// Makes the step of the node on the word: the word, the mind and the clock of the node are new.
@@ -139,13 +167,11 @@ impl<'a> Core<'a> {
         ensures core { self.new ≡ made self.old node.0 w.0 was payload mind }
         ensures event { result ≡ event_in self.old node.0 w.0 was payload }
     {
-        let n = node.0 as usize;
-        let stamp = max(self.clocks[n], stamp_of(was)) + 1;
+        self.sound();
+        self.reached();
+        let stamp = self.next_stamp(node, was);
         let now = word_of(stamp, payload);
-        self.words[w.0 as usize] = now;
-        self.minds[n] = mind;
-        self.clocks[n] = stamp;
-        self.events += 1;
+        self.put(node, w, now, stamp, mind);
         Event {
             node,
             stamp,
@@ -155,13 +181,32 @@ impl<'a> Core<'a> {
         }
     }
 
+    /// The place after the one at which the box of the node scans.
+    fn next_place(&self, node: NodeNo) -> u32
+        requires there { node.0 < length self.now.scans }
+        requires place { slice_index_or self.now.scans node.0 0 ≤ length self.now.line.trains }
+        requires few { length self.now.line.trains ≤ 32 }
+        ensures { result ≡ next_place self.now.line (slice_index_or self.now.scans node.0 0) }
+    {
+        (self.scans[node.0 as usize] + 1) % (self.line.layout().trains + 1)
+    }
+
+    /// Writes a scan place.
+    fn put_scan(&mut self, node: NodeNo, place: u32)
+        requires there { node.0 < length self.old.scans }
+        requires reached { IsReached (record self.old { scans = slice_set self.old.scans node.0 place }) }
+        ensures { self.new ≡ record self.old { scans = slice_set self.old.scans node.0 place } }
+    {
+        self.scans[node.0 as usize] = place;
+    }
+
     /// The box of the node goes on to its next scan place.
     pub(crate) fn advance(&mut self, node: NodeNo)
         requires { node.0 < node_count (layout_of self.old.line) }
         ensures { self.new ≡ advanced self.old node.0 }
     {
-        let places = self.line.layout().trains + 1;
-        let n = node.0 as usize;
-        self.scans[n] = (self.scans[n] + 1) % places;
+        self.reached();
+        let place = self.next_place(node);
+        self.put_scan(node, place);
     }
 }

@@ -1,15 +1,13 @@
-ghost use Rattle.std.specs.Prelude.{◌≡◌, ℕ, ◌<◌, ◌≤◌, ◌^◌, length, slice_get, slice_index_or, Some, None};
+ghost use Rattle.std.specs.Prelude.{◌≡◌, ℕ, ◌<◌, ◌≤◌, ◌^◌, length, slice_get, slice_index_or, Some, None, if◌then◌else◌};
 ghost use Rattle.rl_base.specs.declared.layout.NodeKind.TheVariants as nodes;
 ghost use Rattle.rl_base.specs.Layout.{node_count, word_count};
-ghost use Rattle.rl_words.specs.Stamps.{payload_in};
 ghost use Rattle.rl_tables.specs.Starts.{layout_of};
 ghost use Rattle.rl_runs.specs.Numbers.{node_at};
-ghost use Rattle.rl_runs.specs.Sound.{IsSound};
-ghost use Rattle.rl_runs.specs.Step.{node_step, is_ready};
+ghost use Rattle.rl_runs.specs.Step.{is_ready};
 ghost use Rattle.rl_runs.specs.Turn.{Drive, turn_of, answer_of};
-ghost use Rattle.rl_core.specs.Cores.{state_of, LeadsTo, HasSizes};
-ghost use Rattle.rl_core.specs.Looks.{IsLook, after_look, answer_to, after_turn};
-ghost use Rattle.rl_core.specs.Made.{event_in, made, advanced};
+ghost use Rattle.rl_core.specs.Cores.{state_of, LeadsTo};
+ghost use Rattle.rl_core.specs.Looks.{IsLook, after_look, answer_to};
+ghost use Rattle.rl_core.specs.Made.{advanced};
 
 use crate::cores::Core;
 use crate::look::Look;
@@ -18,10 +16,66 @@ use rl_box::{BoxMind, Work};
 use rl_record::Turn;
 use rl_runs::{Mind, numbered};
 use rl_track::{MachineMind, TrackMind};
-use rl_train::TrainMind;
+use rl_train::{TrainMind, usable_tables};
 use rl_words::payload_of;
 
 impl<'a> Core<'a> {
+    /// The mind of the node of a train.
+    pub(crate) fn train_mind(&self, node: NodeNo, t: TrainId) -> &TrainMind
+        requires at { node_at (layout_of self.now.line) node.0 ≡ Some (nodes.Train t) }
+        requires there { node.0 < node_count (layout_of self.now.line) }
+        requires few { self.now.events < 2 ^ 32 }
+        ensures { (state_of self.now).minds node.0 ≡ Mind.Train result.now }
+    {
+        self.sound();
+        match self.mind_at(node) {
+            Mind::Train(mind) => mind,
+            Mind::Track(_) | Mind::Box(_) | Mind::Machine(_) => unreachable!(),
+        }
+    }
+
+    /// The mind of the node of a track.
+    fn track_mind(&self, node: NodeNo, t: TrainId) -> &TrackMind
+        requires at { node_at (layout_of self.now.line) node.0 ≡ Some (nodes.Track t) }
+        requires there { node.0 < node_count (layout_of self.now.line) }
+        requires few { self.now.events < 2 ^ 32 }
+        ensures { (state_of self.now).minds node.0 ≡ Mind.Track result.now }
+    {
+        self.sound();
+        match self.mind_at(node) {
+            Mind::Track(mind) => mind,
+            Mind::Train(_) | Mind::Box(_) | Mind::Machine(_) => unreachable!(),
+        }
+    }
+
+    /// The mind of the node of a box.
+    fn box_mind(&self, node: NodeNo, b: BoxId) -> &BoxMind
+        requires at { node_at (layout_of self.now.line) node.0 ≡ Some (nodes.Box b) }
+        requires there { node.0 < node_count (layout_of self.now.line) }
+        requires few { self.now.events < 2 ^ 32 }
+        ensures { (state_of self.now).minds node.0 ≡ Mind.Box result.now }
+    {
+        self.sound();
+        match self.mind_at(node) {
+            Mind::Box(mind) => mind,
+            Mind::Train(_) | Mind::Track(_) | Mind::Machine(_) => unreachable!(),
+        }
+    }
+
+    /// The mind of the node of a point machine.
+    fn machine_mind(&self, node: NodeNo, b: BoxId) -> &MachineMind
+        requires at { node_at (layout_of self.now.line) node.0 ≡ Some (nodes.Machine b) }
+        requires there { node.0 < node_count (layout_of self.now.line) }
+        requires few { self.now.events < 2 ^ 32 }
+        ensures { (state_of self.now).minds node.0 ≡ Mind.Machine result.now }
+    {
+        self.sound();
+        match self.mind_at(node) {
+            Mind::Machine(mind) => mind,
+            Mind::Train(_) | Mind::Track(_) | Mind::Box(_) => unreachable!(),
+        }
+    }
+
     /// What a train sees.
     fn look_train(&self, node: NodeNo, t: TrainId, mind: &TrainMind) -> Look
         requires at { node_at (layout_of self.now.line) node.0 ≡ Some (nodes.Train t) }
@@ -31,6 +85,7 @@ impl<'a> Core<'a> {
     {
         self.sound();
         numbered();
+        usable_tables();
         let lay = self.line().layout();
         let table = self.line().train_table(t);
         let Some(w) = mind.target(&lay, table) else {
@@ -98,34 +153,29 @@ impl<'a> Core<'a> {
             None => Look::Idles(w, was),
         }
     }
-}
 
-/// Whether the mind is that of a box that has nothing in hand.
-fn is_ready(mind: &Mind) -> bool
-    ensures { result ≡ is_ready mind.now }
-{
-    match mind {
-        Mind::Box(mind) => matches!(mind.work, Work::Ready),
-        Mind::Train(_) | Mind::Track(_) | Mind::Machine(_) => false,
+    /// The place at which the box of the node scans.
+    fn scan(&self, node: NodeNo) -> u32
+        requires { node.0 < node_count (layout_of self.now.line) }
+        ensures place { result ≡ slice_index_or self.now.scans node.0 0 }
+        ensures within { result ≤ length self.now.line.trains }
+    {
+        self.reached();
+        self.scan_at(node)
     }
-}
 
-impl<'a> Core<'a> {
     /// What the node sees at its target.
     fn look(&self, node: NodeNo) -> Look
         requires there { node.0 < node_count (layout_of self.now.line) }
         requires few { self.now.events < 2 ^ 32 }
         ensures { IsLook self.now.line (state_of self.now) node.0 (slice_index_or self.now.scans node.0 0) result }
     {
-        self.sound();
         numbered();
-        let scan = self.scan_at(node);
-        match (self.line().layout().node_kind(node), self.mind_at(node)) {
-            (NodeKind::Train(t), Mind::Train(mind)) => self.look_train(node, t, mind),
-            (NodeKind::Track(t), Mind::Track(mind)) => self.look_track(node, t, mind),
-            (NodeKind::Box(b), Mind::Box(mind)) => self.look_box(node, b, mind, scan),
-            (NodeKind::Machine(b), Mind::Machine(mind)) => self.look_machine(node, b, mind),
-            _ => unreachable!(),
+        match self.line().layout().node_kind(node) {
+            NodeKind::Train(t) => self.look_train(node, t, self.train_mind(node, t)),
+            NodeKind::Track(t) => self.look_track(node, t, self.track_mind(node, t)),
+            NodeKind::Box(b) => self.look_box(node, b, self.box_mind(node, b), self.scan(node)),
+            NodeKind::Machine(b) => self.look_machine(node, b, self.machine_mind(node, b)),
         }
     }
 
@@ -133,7 +183,7 @@ impl<'a> Core<'a> {
     fn make(&mut self, node: NodeNo, look: Look) -> Turn
         requires there { node.0 < node_count (layout_of self.old.line) }
         requires few { self.old.events < 4294967295 }
-        requires look { (scan : ℕ) × IsLook self.old.line (state_of self.old) node.0 scan look }
+        requires look { IsLook self.old.line (state_of self.old) node.0 (slice_index_or self.old.scans node.0 0) look }
         ensures core { self.new ≡ after_look self.old node.0 look }
         ensures answer { result ≡ answer_to self.old node.0 look }
     {
@@ -143,6 +193,27 @@ impl<'a> Core<'a> {
             Look::Steps(w, was, payload, mind) => {
                 Turn::Moved(self.step(node, w, was, payload, mind))
             }
+        }
+    }
+
+    /// Whether the node is a box that has nothing in hand.
+    fn is_ready(&self, node: NodeNo) -> bool
+        requires { node.0 < length self.now.minds }
+        ensures { result ≡ is_ready ((state_of self.now).minds node.0) }
+    {
+        match self.mind_at(node) {
+            Mind::Box(mind) => matches!(mind.work, Work::Ready),
+            Mind::Train(_) | Mind::Track(_) | Mind::Machine(_) => false,
+        }
+    }
+
+    /// A ready box goes on to its next scan place.
+    fn go_on(&mut self, node: NodeNo, ready: bool)
+        requires { node.0 < node_count (layout_of self.old.line) }
+        ensures { self.new ≡ (if ready then advanced self.old node.0 else self.old) }
+    {
+        if ready {
+            self.advance(node);
         }
     }
 
@@ -161,11 +232,9 @@ impl<'a> Core<'a> {
     {
         self.reached();
         let look = self.look(node);
-        let ready = is_ready(self.mind_at(node));
+        let ready = self.is_ready(node);
         let answer = self.make(node, look);
-        if ready {
-            self.advance(node);
-        }
+        self.go_on(node, ready);
         answer
     }
 }

@@ -40,7 +40,7 @@ use Rattle.rl_runs.proofs.Options.{from_map}
 use Rattle.rl_runs.proofs.ByKind.{train_step_at, track_step_at, box_step_at, machine_step_at, train_target_at, track_target_at, box_target_at, machine_target_at}
 
 -- the words at which nodes look are there
-train_number : (tables : Tables) (t : ℕ) (x : TrainTable) → IsLine tables → slice_get tables.trains t ≡ Some x → x.number.0 < length tables.trains
+pub train_number : (tables : Tables) (t : ℕ) (x : TrainTable) → IsLine tables → slice_get tables.trains t ≡ Some x → x.number.0 < length tables.trains
 train_number tables t x line there =
     let within : t < length tables.trains = slice_get_within tables.trains t x there in
     let number : x.number.0 ≡ t = (line.trains t x there).number in

@@ -1,4 +1,4 @@
-use Rattle.std.proofs.Common.{◌≡◌, refl}
+use Rattle.std.proofs.Common.{◌≡◌, ◌≤◌, refl, arith}
 use Rattle.rl_runs.specs.Turn.{start_drive}
 use Rattle.rl_core.proofs.Started.{core_at, start_leads, start_sizes}
 use Rattle.rl_core.specs.Cores.{Core, LeadsTo, HasSizes}
@@ -9,6 +9,7 @@ invariant_of-result c =
     rw (c.in_ok-words.ensures, c.in_ok-clocks.ensures, c.in_ok-scans.ensures) record {
       drive = start_drive;
       leads = start_leads c.args.line.now c.args.tries c.in_ok-minds.minds.items c.in_ok-minds.ensures.minds;
+      places = λ n there. omega arith;
       sizes = start_sizes c.args.line.now c.args.tries c.in_ok-minds.minds.items c.in_ok-minds.ensures.minds;
       line = c.start_minds.ensures.line;
       some_tries = c.requires.some_tries;
