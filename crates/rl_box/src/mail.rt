@@ -53,7 +53,14 @@ fn answered(letter: Letter, answer: Answer) -> Option<MailWord>
 }
 
 /// A box that says the answer to a letter of train `to` writes it into the mail word of that train.
-pub(crate) fn say(b: &BoxTable, t: TrainId, to: TrainId, letter: Letter, answer: Answer, word: MailWord) -> Option<(MailWord, Work)>
+pub(crate) fn say(
+    b: &BoxTable,
+    t: TrainId,
+    to: TrainId,
+    letter: Letter,
+    answer: Answer,
+    word: MailWord,
+) -> Option<(MailWord, Work)>
     requires letter { FitsLetter letter }
     requires answer { IsAnswer answer }
     ensures step { result ≡ mail_turn b.now t (Work.Say to letter answer) word }

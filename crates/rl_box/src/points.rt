@@ -53,7 +53,12 @@ fn with_work(work: Work) -> BoxMind
 
 /// What a box that serves the letter of the train, and waits for no points, does with its lock word: the new word
 /// and the mind after it.
-pub(crate) fn serve(b: &BoxTable, t: TrainId, letter: Letter, word: LockWord) -> Option<(LockWord, BoxMind)>
+pub(crate) fn serve(
+    b: &BoxTable,
+    t: TrainId,
+    letter: Letter,
+    word: LockWord,
+) -> Option<(LockWord, BoxMind)>
     requires train { t.0 < 32 }
     requires letter { FitsLetter letter }
     requires word { FitsLock word }

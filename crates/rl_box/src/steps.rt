@@ -90,7 +90,13 @@ impl BoxMind {
     }
 
     #[tactic(auto, unfolding(crate::specs::Steps::box_step))]
-    fn step(&self, lay: &Layout, b: &BoxTable, kind: WordKind, payload: u32) -> Option<(u32, BoxMind)>
+    fn step(
+        &self,
+        lay: &Layout,
+        b: &BoxTable,
+        kind: WordKind,
+        payload: u32,
+    ) -> Option<(u32, BoxMind)>
         requires trains { lay.now.trains ≤ 32 }
         requires mind { IsBoxMind lay.now b.now self.now }
         ensures { result ≡ box_step b.now self.now kind payload }
@@ -121,7 +127,15 @@ impl BoxMind {
     }
 
     #[tactic(auto, unfolding(crate::specs::Steps::box_step))]
-    fn say(&self, b: &BoxTable, t: TrainId, to: TrainId, letter: Letter, answer: Answer, payload: u32) -> Option<(u32, BoxMind)>
+    fn say(
+        &self,
+        b: &BoxTable,
+        t: TrainId,
+        to: TrainId,
+        letter: Letter,
+        answer: Answer,
+        payload: u32,
+    ) -> Option<(u32, BoxMind)>
         requires work { self.now.work ≡ Work.Say to letter answer }
         requires letter { FitsLetter letter }
         requires answer { IsAnswer answer }
@@ -132,7 +146,13 @@ impl BoxMind {
     }
 
     #[tactic(auto, unfolding(crate::specs::Steps::box_step))]
-    fn serve_resv(&self, b: &BoxTable, t: TrainId, letter: Letter, payload: u32) -> Option<(u32, BoxMind)>
+    fn serve_resv(
+        &self,
+        b: &BoxTable,
+        t: TrainId,
+        letter: Letter,
+        payload: u32,
+    ) -> Option<(u32, BoxMind)>
         requires work { self.now.work ≡ Work.Serve t letter }
         requires train { t.0 < 32 }
         requires letter { FitsLetter letter }
@@ -143,7 +163,13 @@ impl BoxMind {
     }
 
     #[tactic(auto, unfolding(crate::specs::Steps::box_step))]
-    fn serve_lock(&self, b: &BoxTable, t: TrainId, letter: Letter, payload: u32) -> Option<(u32, BoxMind)>
+    fn serve_lock(
+        &self,
+        b: &BoxTable,
+        t: TrainId,
+        letter: Letter,
+        payload: u32,
+    ) -> Option<(u32, BoxMind)>
         requires work { self.now.work ≡ Work.Serve t letter }
         requires train { t.0 < 32 }
         requires letter { FitsLetter letter }

@@ -11,3 +11,6 @@ pub mod track;
 pub use laws::{machine_lines, machine_steps, track_lines, track_steps};
 pub use machine::MachineMind;
 pub use track::{TrackMind, TrackPhase};
+
+#[cfg(test)]
+mod tests;

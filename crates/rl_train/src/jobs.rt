@@ -84,12 +84,8 @@ pub(crate) fn after_no(_row: &StepRow, job: Job) -> Option<Job>
         Job::Near => Some(Job::Near),
         Job::Far => Some(Job::DropNear),
         Job::Lock => Some(Job::DropFar),
-        Job::Pass
-        | Job::Unlock
-        | Job::FreeNear
-        | Job::FreeFar
-        | Job::DropFar
-        | Job::DropNear => None,
+        Job::Pass | Job::Unlock | Job::FreeNear | Job::FreeFar | Job::DropFar | Job::DropNear =>
+            None,
     }
 }
 

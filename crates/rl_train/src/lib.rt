@@ -11,3 +11,6 @@ mod steps;
 
 pub use laws::{train_lines, train_steps, usable_tables};
 pub use mind::TrainMind;
+
+#[cfg(test)]
+mod tests;
