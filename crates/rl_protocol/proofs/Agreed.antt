@@ -1,5 +1,5 @@
 -- Every state of every run agrees.
-use Rattle.std.proofs.Common.{◌≡◌, ℕ, ◌+◌, Bool, true, false, List, [], ◌∷◌, Option, Some, None, refl, sym, ap, ◌∙◌, arith}
+use Rattle.std.proofs.Common.{◌≡◌, ℕ, false, List, [], ◌∷◌, Option, Some, None, refl, sym, ◌∙◌, arith}
 use Rattle.std.proofs.lemmas.Bool.{false≢true}
 use Rattle.std.proofs.lemmas.Bool.Decides.{nat_tests}
 use Rattle.rl_base.specs.declared.ids.TrainId.{TrainId}
@@ -7,8 +7,7 @@ use Rattle.rl_protocol.specs.Line.{Line, is_held_by, IsConsistent}
 use Rattle.rl_protocol.specs.State.{State, start}
 use Rattle.rl_protocol.specs.Steps.{Step, Fits, next}
 use Rattle.rl_protocol.specs.Runs.{state_after, IsRun}
-use Rattle.rl_protocol.specs.Held.{holds}
-use Rattle.rl_protocol.specs.Agreement.{Agrees, AgreesOnReservations, AgreesOnLocks, AgreesOnMailboxes, AgreesOnAnswers, AgreesOnPassage, AgreesOnAttempts}
+use Rattle.rl_protocol.specs.Agreement.{Agrees}
 use Rattle.rl_protocol.proofs.Jobs.{starts_holding, starts_unlocked, starts_standing, starts_closed, starts_beginning}
 use Rattle.rl_protocol.proofs.Known.{Known, known}
 use Rattle.rl_protocol.proofs.Mail.{mailboxes_kept}

@@ -1,13 +1,13 @@
 -- Every step keeps the agreement on answers.
-use Rattle.std.proofs.Common.{◌≡◌, ◌≢◌, ℕ, ◌+◌, ◌-◌, ◌<◌, ◌==◌, Bool, true, false, cond, not, ◌&&◌, ◌||◌, Option, Some, None, refl, sym, ap, ◌∙◌, subst, ◌⊎◌, inl, inr, ⊎_elim, arith}
+use Rattle.std.proofs.Common.{◌≡◌, ◌≢◌, ℕ, arith}
 use Rattle.std.proofs.lemmas.Bool.Decides.{nat_tests}
 use Rattle.rl_base.specs.declared.ids.TrainId.{TrainId}
 use Rattle.rl_words.specs.declared.mail.Letter.{Letter}
 use Rattle.rl_box.specs.declared.mind.Answer.TheVariants as answers
-use Rattle.rl_box.specs.declared.mind.Work.TheVariants.{Ready, Serve, Say}
+use Rattle.rl_box.specs.declared.mind.Work.TheVariants.{Say}
 use Rattle.rl_protocol.specs.Line.{Line}
 use Rattle.rl_protocol.specs.State.{State}
-use Rattle.rl_protocol.specs.Steps.{Step, post, hear_yes, hear_no, go, quiet, take, grant, refuse, release, lock_now, lock_ask, lock_moved, unlock, say_yes, say_no, busy, throw, settle, enter, head, leave, tail, Fits, next}
+use Rattle.rl_protocol.specs.Steps.{Step, Fits, next}
 use Rattle.rl_protocol.specs.Agreement.{AgreesOnAnswers, HasWhatIsAsked}
 
 other_kept : (line : Line) (s : State) (step : Step) (b : ℕ) (t u : TrainId) (l : Letter) → ((s.boxes b).work ≡ Say t l (answers.No u) → u.0 ≢ t.0) → Fits line s step → ((next line s step).boxes b).work ≡ Say t l (answers.No u) → u.0 ≢ t.0

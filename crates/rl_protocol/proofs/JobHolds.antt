@@ -1,8 +1,7 @@
 -- What a train holds and has locked by its job before and after an answer.
-use Rattle.std.proofs.Common.{◌≡◌, ◌≢◌, ℕ, ◌+◌, ◌-◌, ◌<◌, ◌==◌, Bool, true, false, cond, not, ◌&&◌, ◌||◌, Option, Some, None, refl, sym, ap, ◌∙◌, subst, ◌⊎◌, inl, inr, arith}
-use Rattle.std.proofs.lemmas.Bool.{false≢true}
+use Rattle.std.proofs.Common.{◌≡◌, ℕ, ◌+◌, ◌<◌, ◌==◌, Bool, true, cond, ◌&&◌, Some, refl, arith}
 use Rattle.std.proofs.lemmas.Bool.Decides.{nat_tests}
-use Rattle.std.proofs.lemmas.Option.{none-some, same_Some}
+use Rattle.std.proofs.lemmas.Option.{none-some}
 use Rattle.rl_base.specs.declared.job.Job.{Job}
 use Rattle.rl_base.specs.declared.job.Job.TheVariants as jobs
 use Rattle.rl_words.specs.declared.mail.Letter.{Letter}
@@ -10,7 +9,7 @@ use Rattle.rl_tables.specs.declared.table.StepRow.{StepRow}
 use Rattle.rl_train.specs.declared.mind.TrainMind.{TrainMind}
 use Rattle.rl_protocol.specs.Line.{Line, at, IsStepOf, IsConsistent}
 use Rattle.rl_protocol.specs.Jobs.{letter_at, passes, holds_at, locks_at, job_after_yes, job_after_no, finishes}
-use Rattle.rl_protocol.specs.Steps.{row_of, letter_of, heard}
+use Rattle.rl_protocol.specs.Minds.{letter_of, heard}
 use Rattle.rl_protocol.specs.Held.{held_after, locked_after, job_holds, job_locks}
 
 -- the same at the row of the step, for each job

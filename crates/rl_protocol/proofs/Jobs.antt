@@ -1,7 +1,6 @@
 -- Laws of the job table. Only here does a proof look at a job.
-use Rattle.std.proofs.Common.{◌≡◌, ◌≢◌, ℕ, ◌+◌, ◌-◌, ◌<◌, ◌==◌, Bool, true, false, cond, not, ◌&&◌, ◌||◌, Option, Some, None, refl, sym, ap, ◌∙◌, subst, ◌⊎◌, inl, inr, arith}
+use Rattle.std.proofs.Common.{◌≡◌, ℕ, ◌+◌, Bool, true, false, cond, not, Some, refl, sym, arith}
 use Rattle.std.proofs.lemmas.Bool.{false≢true}
-use Rattle.std.proofs.lemmas.Bool.Decides.{nat_tests}
 use Rattle.rl_base.specs.declared.job.Job.{Job}
 use Rattle.rl_base.specs.declared.job.Job.TheVariants as jobs
 use Rattle.rl_words.specs.declared.mail.Letter.{Letter}
@@ -11,7 +10,7 @@ use Rattle.rl_train.specs.Mind.{start_train}
 use Rattle.rl_protocol.specs.Line.{Line}
 use Rattle.rl_protocol.specs.State.{start}
 use Rattle.rl_protocol.specs.Jobs.{letter_at, passes, has_passed, job_after_yes, job_after_no, finishes, begins, is_open, holds_at, locks_at}
-use Rattle.rl_protocol.specs.Steps.{row_of, heard, denied, passed}
+use Rattle.rl_protocol.specs.Minds.{row_of, heard}
 use Rattle.rl_protocol.specs.Agreement.{place_of, open_attempts, IsStanding}
 
 -- a job with a letter isn't Pass
@@ -203,3 +202,40 @@ starts_closed tries = omega arith
 pub starts_beginning : not (begins jobs.Near) ≡ false
 unfolding begins
 starts_beginning = refl
+
+-- where an attempt may begin a train holds the segment on which the step begins, and has no lock
+pub beginning_holds : (row : StepRow) (job : Job) (here ahead : Bool) (b x : ℕ) → begins job ≡ true → holds_at job row here ahead b x ≡ here
+unfolding begins holds_at
+beginning_holds row jobs.Near here ahead b x h = refl
+beginning_holds row jobs.Far here ahead b x h = cc
+beginning_holds row jobs.Lock here ahead b x h = cc
+beginning_holds row jobs.Pass here ahead b x h = cc
+beginning_holds row jobs.Unlock here ahead b x h = cc
+beginning_holds row jobs.FreeNear here ahead b x h = cc
+beginning_holds row jobs.FreeFar here ahead b x h = cc
+beginning_holds row jobs.DropFar here ahead b x h = cc
+beginning_holds row jobs.DropNear here ahead b x h = cc
+
+pub beginning_unlocked : (row : StepRow) (job : Job) (b x y : ℕ) → begins job ≡ true → locks_at job row b x y ≡ false
+unfolding begins locks_at
+beginning_unlocked row jobs.Near b x y h = refl
+beginning_unlocked row jobs.Far b x y h = cc
+beginning_unlocked row jobs.Lock b x y h = cc
+beginning_unlocked row jobs.Pass b x y h = cc
+beginning_unlocked row jobs.Unlock b x y h = cc
+beginning_unlocked row jobs.FreeNear b x y h = cc
+beginning_unlocked row jobs.FreeFar b x y h = cc
+beginning_unlocked row jobs.DropFar b x y h = cc
+beginning_unlocked row jobs.DropNear b x y h = cc
+
+pub beginning_place : (job : Job) → begins job ≡ true → has_passed job ≡ false
+unfolding begins has_passed
+beginning_place jobs.Near h = refl
+beginning_place jobs.Far h = cc
+beginning_place jobs.Lock h = cc
+beginning_place jobs.Pass h = cc
+beginning_place jobs.Unlock h = cc
+beginning_place jobs.FreeNear h = cc
+beginning_place jobs.FreeFar h = cc
+beginning_place jobs.DropFar h = cc
+beginning_place jobs.DropNear h = cc

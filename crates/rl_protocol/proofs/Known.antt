@@ -1,23 +1,18 @@
 -- What is known of a step besides what it finds, in a state that agrees: the letter in hand is that of its train.
-use Rattle.std.proofs.Common.{◌≡◌, ◌≢◌, ℕ, ◌+◌, ◌-◌, ◌<◌, ◌==◌, Bool, true, false, cond, not, ◌&&◌, ◌||◌, Option, Some, None, refl, sym, ap, ◌∙◌, subst, ◌⊎◌, inl, inr, arith}
-use Rattle.std.proofs.lemmas.Bool.{false≢true, ne_eqb}
+use Rattle.std.proofs.Common.{◌≡◌, ◌≢◌, ℕ, true, false, Option, Some, None, refl, sym, ap, ◌∙◌, subst, arith}
+use Rattle.std.proofs.lemmas.Bool.{ne_eqb}
 use Rattle.std.proofs.lemmas.Bool.Decides.{nat_tests}
-use Rattle.rl_base.specs.declared.ids.TrainId.{TrainId}
-use Rattle.rl_base.specs.declared.job.Job.{Job}
-use Rattle.rl_words.specs.declared.mail.MailWord.TheVariants.{Empty, Ask, Taken, Yes, No}
+use Rattle.rl_words.specs.declared.mail.MailWord.TheVariants.{Empty, Ask, Taken, Yes}
 use Rattle.rl_words.specs.declared.mail.Letter.{Letter}
 use Rattle.rl_words.specs.declared.lock.Path.{Path}
-use Rattle.rl_words.specs.declared.lock.LockWord.TheVariants.{Free, Asked, Moving, Moved, Locked}
-use Rattle.rl_tables.specs.declared.table.StepRow.{StepRow}
-use Rattle.rl_box.specs.declared.mind.Answer.{Answer}
 use Rattle.rl_box.specs.declared.mind.Answer.TheVariants as answers
-use Rattle.rl_box.specs.declared.mind.Work.TheVariants.{Ready, Serve, Say}
 use Rattle.rl_protocol.specs.Line.{Line}
-use Rattle.rl_protocol.specs.Jobs.{letter_at, passes}
+use Rattle.rl_protocol.specs.Jobs.{passes}
 use Rattle.rl_protocol.specs.State.{State}
-use Rattle.rl_protocol.specs.Steps.{Step, post, hear_yes, hear_no, go, quiet, take, grant, refuse, release, lock_now, lock_ask, lock_moved, unlock, say_yes, say_no, busy, throw, settle, enter, head, leave, tail, Fits, next, letter_of, letter_of_path, train}
+use Rattle.rl_protocol.specs.Minds.{letter_of, letter_of_path, train}
+use Rattle.rl_protocol.specs.Steps.{Step, post, hear_yes, hear_no, go, quiet, take, grant, refuse, release, lock_now, lock_ask, lock_moved, unlock, say_yes, say_no, busy, throw, settle, enter, head, leave, tail, Fits}
 use Rattle.rl_protocol.specs.Held.{is_path_of}
-use Rattle.rl_protocol.specs.Agreement.{asks, Carries, IsAtWork, AgreesOnMailboxes, AgreesOnLocks, path_in_setting}
+use Rattle.rl_protocol.specs.Agreement.{asks, Carries, AgreesOnMailboxes, AgreesOnLocks, path_in_setting}
 use Rattle.rl_protocol.proofs.Jobs.{letter_not_passing, letter_there}
 
 -- train t waits for the answer to the letter

@@ -1,19 +1,17 @@
 -- What a letter of the job table names: arms that are there, and for a lock a passage that its box can connect.
-use Rattle.std.proofs.Common.{◌≡◌, ◌≢◌, ℕ, ◌+◌, ◌-◌, ◌<◌, ◌==◌, Bool, true, false, cond, not, ◌&&◌, ◌||◌, Option, Some, None, refl, sym, ap, ◌∙◌, subst, ◌⊎◌, inl, inr, arith}
+use Rattle.std.proofs.Common.{◌≡◌, ℕ, ◌+◌, ◌<◌, ◌==◌, Bool, true, false, cond, ◌&&◌, ◌||◌, Some, refl, arith}
 use Rattle.std.proofs.lemmas.Bool.{false≢true}
 use Rattle.std.proofs.lemmas.Bool.Decides.{nat_tests}
-use Rattle.rl_base.specs.declared.ids.BoxId.{BoxId}
-use Rattle.rl_base.specs.declared.ids.Arm.{Arm}
 use Rattle.rl_base.specs.declared.job.Job.{Job}
 use Rattle.rl_base.specs.declared.job.Job.TheVariants as jobs
 use Rattle.rl_base.specs.declared.job.Verb.TheVariants as verbs
 use Rattle.rl_words.specs.declared.mail.Letter.{Letter}
 use Rattle.rl_tables.specs.declared.table.StepRow.{StepRow}
-use Rattle.rl_tables.specs.Kept.{can_join}
 use Rattle.rl_protocol.specs.Line.{Line, at, IsStepOf, IsConsistent}
 use Rattle.rl_train.specs.declared.mind.TrainMind.{TrainMind}
 use Rattle.rl_protocol.specs.Jobs.{letter_at, has_passed, holds_at, locks_at, begins, passes}
-use Rattle.rl_protocol.specs.Steps.{row_of, letter_of}
+use Rattle.rl_protocol.specs.Minds.{letter_of}
+use Rattle.rl_protocol.specs.Held.{job_holds}
 use Rattle.rl_protocol.specs.Agreement.{place_of}
 
 -- the places of a row are ends of its segments, and so arms
@@ -145,3 +143,34 @@ passing_locks row jobs.FreeNear b x y h = cc
 passing_locks row jobs.FreeFar b x y h = cc
 passing_locks row jobs.DropFar b x y h = cc
 passing_locks row jobs.DropNear b x y h = cc
+
+-- what a train asks to reserve it doesn't hold, and what it releases it holds
+reserve_new : (line : Line) (t k : ℕ) (job : Job) (l : Letter) → IsStepOf line t k (line.row t k) → letter_at job (line.row t k) ≡ Some l → l.verb ≡ verbs.Reserve → holds_at job (line.row t k) (line.ends t k l.to.0 l.x.0) (line.ends t (k + 1) l.to.0 l.x.0) l.to.0 l.x.0 ≡ false
+unfolding letter_at holds_at
+reserve_new line t k jobs.Near l is h verb = grind (arith, nat_tests, is.ahead l.to.0 l.x.0, is.apart l.to.0 l.x.0)
+reserve_new line t k jobs.Far l is h verb = grind (arith, nat_tests, is.ahead l.to.0 l.x.0, is.apart l.to.0 l.x.0)
+reserve_new line t k jobs.Lock l is h verb = grind arith
+reserve_new line t k jobs.Pass l is h verb = grind arith
+reserve_new line t k jobs.Unlock l is h verb = grind arith
+reserve_new line t k jobs.FreeNear l is h verb = grind arith
+reserve_new line t k jobs.FreeFar l is h verb = grind arith
+reserve_new line t k jobs.DropFar l is h verb = grind arith
+reserve_new line t k jobs.DropNear l is h verb = grind arith
+
+release_old : (line : Line) (t k : ℕ) (job : Job) (l : Letter) → IsStepOf line t k (line.row t k) → letter_at job (line.row t k) ≡ Some l → l.verb ≡ verbs.Release → holds_at job (line.row t k) (line.ends t k l.to.0 l.x.0) (line.ends t (k + 1) l.to.0 l.x.0) l.to.0 l.x.0 ≡ true
+unfolding letter_at holds_at
+release_old line t k jobs.Near l is h verb = grind arith
+release_old line t k jobs.Far l is h verb = grind arith
+release_old line t k jobs.Lock l is h verb = grind arith
+release_old line t k jobs.Pass l is h verb = grind arith
+release_old line t k jobs.Unlock l is h verb = grind arith
+release_old line t k jobs.FreeNear l is h verb = grind (arith, nat_tests, is.here l.to.0 l.x.0, is.ahead l.to.0 l.x.0)
+release_old line t k jobs.FreeFar l is h verb = grind (arith, nat_tests, is.here l.to.0 l.x.0, is.ahead l.to.0 l.x.0)
+release_old line t k jobs.DropFar l is h verb = grind (arith, nat_tests, is.here l.to.0 l.x.0, is.ahead l.to.0 l.x.0)
+release_old line t k jobs.DropNear l is h verb = grind (arith, nat_tests, is.here l.to.0 l.x.0, is.ahead l.to.0 l.x.0)
+
+pub reserves_new : (line : Line) (t : ℕ) (m : TrainMind) (l : Letter) → IsConsistent line → m.step < line.steps t → letter_of line t m ≡ Some l → l.verb ≡ verbs.Reserve → job_holds line t m l.to.0 l.x.0 ≡ false
+reserves_new line t m l laws h is verb = reserve_new line t m.step m.job l (laws.rows t m.step h) is verb
+
+pub releases_old : (line : Line) (t : ℕ) (m : TrainMind) (l : Letter) → IsConsistent line → m.step < line.steps t → letter_of line t m ≡ Some l → l.verb ≡ verbs.Release → job_holds line t m l.to.0 l.x.0 ≡ true
+releases_old line t m l laws h is verb = release_old line t m.step m.job l (laws.rows t m.step h) is verb

@@ -19,3 +19,9 @@ pub mod Paths
 pub mod Moved
 pub mod Safe
 pub mod Refusals
+pub mod Served
+pub mod Resting
+pub mod Ranks
+pub mod Counted
+pub mod Totals
+pub mod ExampleRun

@@ -1,9 +1,8 @@
 -- The moves Lock, Unlock, Throw and Settle: their guards hold, and their changes are those of the lock words.
-use Rattle.std.proofs.Common.{◌≡◌, ◌≢◌, ℕ, ◌+◌, ◌<◌, ◌==◌, Bool, true, false, cond, not, ◌&&◌, ◌||◌, Option, Some, None, refl, sym, ap, ◌∙◌, subst, arith}
+use Rattle.std.proofs.Common.{◌≡◌, ◌≢◌, ℕ, ◌==◌, Bool, true, false, cond, not, ◌&&◌, ◌||◌, Option, Some, refl, sym, ap, ◌∙◌, subst, arith}
 use Rattle.std.specs.Prelude.{is_some, unwrap_or}
-use Rattle.std.specs.Option.{option_map_or}
 use Rattle.std.proofs.Math.Path.{fun_ext}
-use Rattle.std.proofs.lemmas.Bool.{eq-eqb, and_parts, and_from, eqb-true, false≢true, cond_both}
+use Rattle.std.proofs.lemmas.Bool.{eq-eqb, and_parts, and_from, eqb-true, cond_both}
 use Rattle.std.proofs.lemmas.Bool.Decides.{nat_tests}
 use Rattle.std.proofs.lemmas.Option.{same_Some}
 use Rattle.rl_base.specs.declared.kind.Kind.{Kind}
@@ -15,7 +14,6 @@ use Rattle.rl_tables.specs.Kept.{can_join}
 use Rattle.rl_model.specs.declared.network.NetworkPlan.{NetworkPlan}
 use Rattle.rl_model.specs.declared.moves.Points.{Points}
 use Rattle.rl_model.specs.declared.moves.Points.TheVariants as points
-use Rattle.rl_model.specs.declared.moves.Move.{Move}
 use Rattle.rl_model.specs.declared.moves.Move.TheVariants as moves
 use Rattle.rl_model.specs.Network.{kind_of, segment_at, arm_of, joined, connects, can_connect}
 use Rattle.rl_model.specs.World.{World, points_at, points_connect}
@@ -25,8 +23,10 @@ use Rattle.rl_words.specs.declared.lock.LockWord.TheVariants.{Free, Asked, Movin
 use Rattle.rl_words.specs.declared.lock.Path.{Path}
 use Rattle.rl_protocol.specs.Line.{Line, is_held_by}
 use Rattle.rl_protocol.specs.State.{State, put}
-use Rattle.rl_protocol.specs.Steps.{box, seg_at, other_side}
-use Rattle.rl_protocol.specs.Worlds.{is_number, is_passage, locks, standing, moving, side_of_path, points_in, world_at}
+use Rattle.rl_box.specs.Steps.{other_side}
+use Rattle.rl_protocol.specs.Minds.{box}
+use Rattle.rl_protocol.specs.StepMoves.{seg_at}
+use Rattle.rl_protocol.specs.Worlds.{is_number, is_passage, locks, standing, moving, points_in, world_at}
 use Rattle.rl_protocol.proofs.Places.{ArePlaced}
 use Rattle.rl_protocol.proofs.Sides.{join_apart, has_side, one_side, stands_still}
 use Rattle.rl_protocol.proofs.Reserving.{IsMove, held_at}
@@ -49,7 +49,7 @@ same_points kinds lock b w is c = cond_both (c == b) w (lock c) (λ v. points_in
 set_points : (kinds : ℕ → Kind) (lock : ℕ → LockWord) (b : ℕ) (w : LockWord) (p : Points) → points_in (kinds b) w ≡ p → (c : ℕ) → points_in (kinds c) (put lock b w c) ≡ cond (c == b) p (points_in (kinds c) (lock c))
 set_points kinds lock b w p is c =
     elim (c == b) as (λ t. (c == b) ≡ t → points_in (kinds c) (cond t w (lock c)) ≡ cond t p (points_in (kinds c) (lock c))) [
-      true ↦ (λ e. subst (λ z. points_in (kinds z) w ≡ p) (sym (eqb-true c b e)) is)
+      | true ↦ (λ e. subst (λ z. points_in (kinds z) w ≡ p) (sym (eqb-true c b e)) is)
       | false ↦ (λ e. refl)
     ] refl
 
@@ -98,17 +98,23 @@ module _ (net : NetworkPlan) (line : Line) (s : State) (b : ℕ) (p : Path) (are
       ∙ path.joined
 
   pub lock_moves : (side : Side) (w : LockWord) → s.lock b ≡ Free side → is_held_by p.train.0 (s.resv b p.x.0) ≡ true → is_held_by p.train.0 (s.resv b p.y.0) ≡ true
-    → ((u f g : ℕ) → locks (segment_at net b) w u f g ≡ is_passage (segment_at net b) p u f g) → points_in (kind_of net b) w ≡ standing (kind_of net b) side
-    → IsMove net (world_at net s) (world_at net (record s { lock = put s.lock b w })) (moves.Lock p.train (box b) (seg_at line b p.x) (seg_at line b p.y))
+      → ((u f g : ℕ) → locks (segment_at net b) w u f g ≡ is_passage (segment_at net b) p u f g) → points_in (kind_of net b) w ≡ standing (kind_of net b) side
+      → IsMove net (world_at net s) (world_at net (record s { lock = put s.lock b w })) (moves.Lock p.train (box b) (seg_at line b p.x) (seg_at line b p.y))
   lock_moves side w free held_x held_y is stays =
       record {
-        guarded = ((segments_apart, ap is_some from_arm, ap is_some to_arm),
-        ((λ u f g. ap (λ v. locks (segment_at net b) v u f g) free),
-        ((held_at net s p.train.0 _ b p.x.0 from_arm ∙ held_x, held_at net s p.train.0 _ b p.y.0 to_arm ∙ held_y),
-        (can_connect_at, tt))));
+        guarded = (
+          (segments_apart, ap is_some from_arm, ap is_some to_arm),
+          (
+            (λ u f g. ap (λ v. locks (segment_at net b) v u f g) free),
+            (
+              (held_at net s p.train.0 _ b p.x.0 from_arm ∙ held_x, held_at net s p.train.0 _ b p.y.0 to_arm ∙ held_y),
+              (can_connect_at, tt),
+            ),
+          ),
+        );
         world = relocked (world_at net s) _ _ _ _
-        (λ c u f g. lock_one (segment_at net) s.lock b p _ _ path.x path.y side free w is c u f g)
-        (same_points (kind_of net) s.lock b w (stays ∙ ap (points_in (kind_of net b)) (sym free)));
+            (λ c u f g. lock_one (segment_at net) s.lock b p _ _ path.x path.y side free w is c u f g)
+            (same_points (kind_of net) s.lock b w (stays ∙ ap (points_in (kind_of net b)) (sym free)));
       }
 
   own_path : is_passage (segment_at net b) p p.train.0 (seg_at line b p.x).0 (seg_at line b p.y).0 ≡ true
@@ -117,13 +123,13 @@ module _ (net : NetworkPlan) (line : Line) (s : State) (b : ℕ) (p : Path) (are
       (ap (λ o. is_number o (seg_at line b p.y).0) path.y ∙ eq-eqb (seg_at line b p.y).0 (seg_at line b p.y).0 refl)
 
   pub unlock_moves : (side : Side) → s.lock b ≡ Locked p → joining_side (kind_of net b) p.x.0 p.y.0 ≡ Some side → ((box : ℕ) → IsNotAcross (world_at net s) p.train.0 box)
-    → IsMove net (world_at net s) (world_at net (record s { lock = put s.lock b (Free side) })) (moves.Unlock p.train (box b))
+      → IsMove net (world_at net s) (world_at net (record s { lock = put s.lock b (Free side) })) (moves.Unlock p.train (box b))
   unlock_moves side locked joins off =
       record {
         guarded = ((_, _, ap (λ v. locks (segment_at net b) v p.train.0 (seg_at line b p.x).0 (seg_at line b p.y).0) locked ∙ own_path), (off b, tt));
         world = relocked (world_at net s) _ _ _ _
-        (λ c u f g. unlock_one (segment_at net) s.lock b p _ _ path.x path.y side c u f g)
-        (same_points (kind_of net) s.lock b (Free side) (ap (λ o. standing (kind_of net b) (unwrap_or o Left)) (sym joins) ∙ ap (points_in (kind_of net b)) (sym locked)));
+            (λ c u f g. unlock_one (segment_at net) s.lock b p _ _ path.x path.y side c u f g)
+            (same_points (kind_of net) s.lock b (Free side) (ap (λ o. standing (kind_of net b) (unwrap_or o Left)) (sym joins) ∙ ap (points_in (kind_of net b)) (sym locked)));
       }
 
   -- any path that is locked is this one
@@ -143,15 +149,20 @@ module _ (net : NetworkPlan) (line : Line) (s : State) (b : ℕ) (p : Path) (are
       let stands : (world_at net s).points b ≡ points_at (other_side side.0) =
       ap (points_in (kind_of net b)) asked ∙ ap (λ o. standing (kind_of net b) (other_side (unwrap_or o Left))) side.1 ∙ ap (λ k. standing k (other_side side.0)) point in
       record {
-        guarded = (((_, _, _, ap (λ v. locks (segment_at net b) v p.train.0 (seg_at line b p.x).0 (seg_at line b p.y).0) asked ∙ own_path), (λ e. stands_still (other_side side.0) (sym stands ∙ e))),
-        ((λ u f g h.
-        ap (points_connect net b f g) stands ∙ at_side net b f g (other_side side.0)
-        ∙ locked_connects f g u (other_side side.0) (sym (ap (λ v. locks (segment_at net b) v u f g) asked) ∙ h)
-        ∙ ap (λ k. arms_join k p.x.0 p.y.0 (other_side side.0)) point
-        ∙ one_side p.x.0 p.y.0 side.0 (sym (ap (λ k. arms_join k p.x.0 p.y.0 side.0) point) ∙ side.2)), tt));
+        guarded = (
+          ((_, _, _, ap (λ v. locks (segment_at net b) v p.train.0 (seg_at line b p.x).0 (seg_at line b p.y).0) asked ∙ own_path), (λ e. stands_still (other_side side.0) (sym stands ∙ e))),
+          (
+            (λ u f g h.
+                ap (points_connect net b f g) stands ∙ at_side net b f g (other_side side.0)
+                ∙ locked_connects f g u (other_side side.0) (sym (ap (λ v. locks (segment_at net b) v u f g) asked) ∙ h)
+                ∙ ap (λ k. arms_join k p.x.0 p.y.0 (other_side side.0)) point
+                ∙ one_side p.x.0 p.y.0 side.0 (sym (ap (λ k. arms_join k p.x.0 p.y.0 side.0) point) ∙ side.2)),
+            tt,
+          ),
+        );
         world = relocked (world_at net s) _ _ _ _
-        (same_lock (segment_at net) s.lock b (Moving p) (λ u f g. sym (ap (λ v. locks (segment_at net b) v u f g) asked)))
-        (set_points (kind_of net) s.lock b (Moving p) points.Moving (ap moving point));
+            (same_lock (segment_at net) s.lock b (Moving p) (λ u f g. sym (ap (λ v. locks (segment_at net b) v u f g) asked)))
+            (set_points (kind_of net) s.lock b (Moving p) points.Moving (ap moving point));
       }
 
   pub settle_moves : (side : Side) → s.lock b ≡ Moving p → kind_of net b ≡ Point → joining_side (kind_of net b) p.x.0 p.y.0 ≡ Some side → IsMove net (world_at net s) (world_at net (record s { lock = put s.lock b (Moved p) })) (moves.Settle (box b) side)
@@ -159,11 +170,16 @@ module _ (net : NetworkPlan) (line : Line) (s : State) (b : ℕ) (p : Path) (are
       let is = has_side (kind_of net b) p.x.0 p.y.0 path.joined in
       let same : is.0 ≡ side = same_Some is.0 side (sym is.1 ∙ joins) in
       record {
-        guarded = (((_, _, _, ap (λ v. locks (segment_at net b) v p.train.0 (seg_at line b p.x).0 (seg_at line b p.y).0) moving_now ∙ own_path), (ap (points_in (kind_of net b)) moving_now ∙ ap moving point)),
-        ((λ u f g h.
-        locked_connects f g u side (sym (ap (λ v. locks (segment_at net b) v u f g) moving_now) ∙ h)
-        ∙ subst (λ d. arms_join (kind_of net b) p.x.0 p.y.0 d ≡ true) same is.2), tt));
+        guarded = (
+          ((_, _, _, ap (λ v. locks (segment_at net b) v p.train.0 (seg_at line b p.x).0 (seg_at line b p.y).0) moving_now ∙ own_path), (ap (points_in (kind_of net b)) moving_now ∙ ap moving point)),
+          (
+            (λ u f g h.
+                locked_connects f g u side (sym (ap (λ v. locks (segment_at net b) v u f g) moving_now) ∙ h)
+                ∙ subst (λ d. arms_join (kind_of net b) p.x.0 p.y.0 d ≡ true) same is.2),
+            tt,
+          ),
+        );
         world = relocked (world_at net s) _ _ _ _
-        (same_lock (segment_at net) s.lock b (Moved p) (λ u f g. sym (ap (λ v. locks (segment_at net b) v u f g) moving_now)))
-        (set_points (kind_of net) s.lock b (Moved p) (points_at side) (ap (λ o. standing (kind_of net b) (unwrap_or o Left)) joins ∙ ap (λ k. standing k side) point));
+            (same_lock (segment_at net) s.lock b (Moved p) (λ u f g. sym (ap (λ v. locks (segment_at net b) v u f g) moving_now)))
+            (set_points (kind_of net) s.lock b (Moved p) (points_at side) (ap (λ o. standing (kind_of net b) (unwrap_or o Left)) joins ∙ ap (λ k. standing k side) point));
       }

@@ -1,19 +1,21 @@
 -- Every step keeps the agreement on mailboxes.
-use Rattle.std.proofs.Common.{◌≡◌, ◌≢◌, ℕ, ◌+◌, ◌-◌, ◌<◌, ◌==◌, Bool, true, false, cond, not, ◌&&◌, ◌||◌, Option, Some, None, refl, sym, ap, ◌∙◌, subst, ◌⊎◌, inl, inr, ⊎_elim, arith}
+use Rattle.std.proofs.Common.{◌≡◌, ◌≢◌, ℕ, true, false, Some, refl, sym, ap, ◌∙◌, inr, ⊎_elim, arith}
 use Rattle.std.proofs.lemmas.Bool.{cases_eq}
 use Rattle.std.proofs.lemmas.Bool.Decides.{nat_tests}
 use Rattle.rl_base.specs.declared.ids.TrainId.{TrainId}
 use Rattle.rl_base.specs.declared.job.Verb.TheVariants as verbs
 use Rattle.rl_base.specs.declared.kind.Side.{Side}
-use Rattle.rl_words.specs.declared.mail.MailWord.TheVariants.{Empty, Ask, Taken, Yes, No}
+use Rattle.rl_words.specs.declared.mail.MailWord.TheVariants.{Empty, Taken}
 use Rattle.rl_words.specs.declared.mail.Letter.{Letter}
 use Rattle.rl_words.specs.declared.lock.Path.{Path}
 use Rattle.rl_box.specs.declared.mind.Answer.{Answer}
-use Rattle.rl_box.specs.declared.mind.Work.TheVariants.{Ready, Serve, Say}
+use Rattle.rl_box.specs.declared.mind.Work.TheVariants.{Serve, Say}
 use Rattle.rl_protocol.specs.Line.{Line}
 use Rattle.rl_protocol.specs.State.{State}
-use Rattle.rl_protocol.specs.Steps.{Step, post, hear_yes, hear_no, go, quiet, take, grant, refuse, release, lock_now, lock_ask, lock_moved, unlock, say_yes, say_no, busy, throw, settle, enter, head, leave, tail, Fits, next, letter_of, letter_of_path, path_of}
-use Rattle.rl_protocol.specs.Agreement.{asks, Carries, IsAtWork, AgreesOnMailboxes, path_in_setting}
+use Rattle.rl_box.specs.Steps.{path_of}
+use Rattle.rl_protocol.specs.Minds.{letter_of, letter_of_path, train}
+use Rattle.rl_protocol.specs.Steps.{Step, post, hear_yes, hear_no, go, quiet, take, grant, refuse, release, lock_now, lock_ask, lock_moved, unlock, say_yes, say_no, busy, throw, settle, enter, head, leave, tail, Fits, next}
+use Rattle.rl_protocol.specs.Agreement.{asks, Carries, IsAtWork, AgreesOnMailboxes}
 use Rattle.rl_protocol.proofs.Jobs.{letter_not_passing}
 use Rattle.rl_protocol.proofs.Known.{Known, HasTaken}
 
@@ -24,7 +26,7 @@ letter_kept : (line : Line) (s : State) (step : Step) (t : ℕ) (l : Letter) →
 letter_kept line s step t l old fits known h k = grind (arith, nat_tests, letter_not_passing)
 
 -- who asks for a path
-asked_letter : (b t : ℕ) (l : Letter) → l.to.0 ≡ b → l.verb ≡ verbs.Lock → l ≡ letter_of_path b (path_of t l)
+asked_letter : (b t : ℕ) (l : Letter) → l.to.0 ≡ b → l.verb ≡ verbs.Lock → l ≡ letter_of_path b (path_of (train t) l)
 asked_letter b t l to verb = grind arith
 
 asked_kept : (line : Line) (s : State) (b t' : ℕ) (l' : Letter) (side : Side) (t : ℕ) (l : Letter) → (s.mail t ≡ Taken l → IsAtWork (s.boxes l.to.0) l.to.0 t l) → Fits line s (lock_ask b t' l' side) → HasTaken line s b t' l' → (next line s (lock_ask b t' l' side)).mail t ≡ Taken l → IsAtWork ((next line s (lock_ask b t' l' side)).boxes l.to.0) l.to.0 t l
@@ -34,9 +36,9 @@ asked_kept line s b t' l' side t l old fits known h =
     let same : l ≡ l' = grind (arith, nat_tests) in
     let here : l.to.0 ≡ b = grind (arith, nat_tests) in
     let verb : l.verb ≡ verbs.Lock = grind (arith, nat_tests) in
-    let waiting : ((next line s (lock_ask b t' l' side)).boxes l.to.0).waiting ≡ Some (path_of t' l') = grind (arith, nat_tests) in
-    let path : path_of t' l' ≡ path_of t' l = ap (path_of t') (sym same) in
-    inr (inr (path_of t' l', waiting, sym e, asked_letter l.to.0 t' l refl verb ∙ ap (letter_of_path l.to.0) (sym path))))
+    let waiting : ((next line s (lock_ask b t' l' side)).boxes l.to.0).waiting ≡ Some (path_of (train t') l') = grind (arith, nat_tests) in
+    let path : path_of (train t') l' ≡ path_of (train t') l = ap (path_of (train t')) (sym same) in
+    inr (inr (path_of (train t') l', waiting, sym e, asked_letter l.to.0 t' l refl verb ∙ ap (letter_of_path l.to.0) (sym path))))
     (λ e. grind (arith, nat_tests))
     (cases_eq t t')
 

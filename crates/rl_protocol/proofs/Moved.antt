@@ -1,7 +1,7 @@
 -- Every step's move is guarded in the world of the state before it, and makes that world the one of the state after it.
-use Rattle.std.proofs.Common.{◌≡◌, ◌≢◌, ℕ, ◌+◌, ◌<◌, ◌==◌, Bool, true, false, cond, not, ◌&&◌, ◌||◌, List, [], ◌∷◌, length, zero, suc, slice_get, Option, Some, None, refl, sym, ap, ◌∙◌, subst, inl, inr, ◌⊎◌, ⊎_elim, arith}
+use Rattle.std.proofs.Common.{◌≡◌, ◌≢◌, ℕ, ◌+◌, ◌<◌, ◌==◌, Bool, true, false, not, ◌&&◌, ◌||◌, List, [], ◌∷◌, length, zero, suc, slice_get, Option, Some, None, refl, sym, ap, ◌∙◌, subst, inl, inr, ◌⊎◌, arith}
 use Rattle.std.specs.Prelude.{is_some, unwrap_or, option_map}
-use Rattle.std.proofs.lemmas.Bool.{eq-eqb, eqb-true, or_left, or_right, and_from, and_parts, false≢true, both_ways}
+use Rattle.std.proofs.lemmas.Bool.{eq-eqb, eqb-true, or_right, and_from, and_parts, false≢true}
 use Rattle.std.proofs.lemmas.Bool.Decides.{nat_tests}
 use Rattle.std.proofs.lemmas.Option.{option_and_then_some}
 use Rattle.rl_base.specs.declared.ids.SegId.{SegId}
@@ -19,26 +19,27 @@ use Rattle.rl_model.specs.declared.moves.Move.TheVariants as moves
 use Rattle.rl_model.specs.declared.network.Segment.{Segment}
 use Rattle.rl_model.specs.declared.network.Train.{Train}
 use Rattle.rl_model.specs.declared.network.NetworkPlan.{NetworkPlan}
-use Rattle.rl_model.specs.Network.{kind_of, segment_at, arm_of, steps_of, route_segment, route_box, IsNetwork, IsStep}
+use Rattle.rl_model.specs.Network.{kind_of, segment_at, route_segment, route_box, IsNetwork, IsStep}
 use Rattle.rl_model.specs.World.{World, points_connect}
-use Rattle.rl_model.specs.Moves.{holds_ends, IsNotAcross}
+use Rattle.rl_model.specs.Moves.{holds_ends}
 use Rattle.rl_words.specs.declared.lock.LockWord.{LockWord}
 use Rattle.rl_words.specs.declared.lock.LockWord.TheVariants.{Free, Asked, Moving, Moved, Locked}
 use Rattle.rl_words.specs.declared.lock.Path.{Path}
 use Rattle.rl_words.specs.declared.mail.Letter.{Letter}
-use Rattle.rl_words.specs.declared.mail.MailWord.TheVariants.{Empty, Ask, Taken, Yes, No}
-use Rattle.rl_words.specs.declared.run.RunWord.{RunWord}
+use Rattle.rl_words.specs.declared.mail.MailWord.TheVariants.{Empty}
 use Rattle.rl_words.specs.declared.run.RunWord.TheVariants.{Clear, Go, Across}
 use Rattle.rl_words.specs.Mail.{IsRefusable}
 use Rattle.rl_protocol.specs.Line.{Line, at, is_held_by, IsConsistent}
 use Rattle.rl_protocol.specs.Jobs.{passes}
-use Rattle.rl_protocol.specs.State.{State, put}
-use Rattle.rl_protocol.specs.Steps.{Step, post, hear_yes, hear_no, go, quiet, take, grant, refuse, release, lock_now, lock_ask, lock_moved, unlock, say_yes, say_no, busy, throw, settle, enter, head, leave, tail, Fits, next, move_of, refusal_of, train, box, seg_at, row_of, path_of, letter_of_path, other_side}
+use Rattle.rl_protocol.specs.State.{State}
+use Rattle.rl_box.specs.Steps.{path_of, other_side}
+use Rattle.rl_protocol.specs.Minds.{train, box, row_of, letter_of_path}
+use Rattle.rl_protocol.specs.Steps.{Step, post, hear_yes, hear_no, go, quiet, take, grant, refuse, release, lock_now, lock_ask, lock_moved, unlock, say_yes, say_no, busy, throw, settle, enter, head, leave, tail, Fits, next}
+use Rattle.rl_protocol.specs.StepMoves.{move_of, refusal_of, seg_at}
 use Rattle.rl_protocol.specs.Held.{has_done_for, done_in, held_with, locked_with, holds, has_lock, job_holds, job_locks}
-use Rattle.rl_protocol.specs.Agreement.{Agrees, AgreesOnPassage, is_passing, is_under_way, place_of, is_locked_by, path_in_setting, lock_holder, HasWhatIsAsked}
-use Rattle.rl_protocol.specs.Worlds.{is_number, same_number, IsLineOf, stands_on, is_across, steps_made, locks, standing, side_of_path, points_in, world_at}
+use Rattle.rl_protocol.specs.Agreement.{Agrees, AgreesOnPassage, is_passing, place_of, is_locked_by, path_in_setting, lock_holder, HasWhatIsAsked}
+use Rattle.rl_protocol.specs.Worlds.{same_number, IsLineOf, stands_on, is_across, locks, standing, points_in, world_at}
 use Rattle.rl_protocol.proofs.Known.{Known, HasTaken}
-use Rattle.rl_protocol.proofs.Agreed.{known_of}
 use Rattle.rl_protocol.proofs.Places.{ArePlaced}
 use Rattle.rl_protocol.proofs.Letters.{row_arms, letter_arm, letter_off, here_at, ahead_at, passing_holds, passing_locks}
 use Rattle.rl_protocol.proofs.Sides.{has_side, stands_now, stands_asked}
@@ -59,13 +60,13 @@ same_off : (o p : Option ℕ) (m n : ℕ) → o ≡ Some m → p ≡ Some n → 
 same_off o p m n e f h = λ same. grind (arith, nat_tests)
 
 -- an item in range is there
-item_there : {A : Type 0} (xs : List A) (k : ℕ) → k < length xs → (x : A) × (slice_get xs k ≡ Some x)
+pub item_there : {A : Type 0} (xs : List A) (k : ℕ) → k < length xs → (x : A) × (slice_get xs k ≡ Some x)
 item_there [] k h = absurd (omega arith)
 item_there (x ∷ xs) zero h = (x, refl)
 item_there (x ∷ xs) (suc k) h = item_there xs k (omega arith)
 
 -- a lock that isn't being set is set
-set_lock : (w : LockWord) (t x y : ℕ) → is_locked_by w t x y ≡ true → ((p : Path) → path_in_setting w ≡ Some p → p.train.0 ≢ t) → (p : Path) × (w ≡ Locked p) × (p.x.0 ≡ x) × (p.y.0 ≡ y)
+pub set_lock : (w : LockWord) (t x y : ℕ) → is_locked_by w t x y ≡ true → ((p : Path) → path_in_setting w ≡ Some p → p.train.0 ≢ t) → (p : Path) × (w ≡ Locked p) × (p.x.0 ≡ x) × (p.y.0 ≡ y)
 set_lock (Free side) t x y h other = absurd (false≢true h)
 set_lock (Asked p) t x y h other = absurd (other p refl (eqb-true _ _ (and_parts _ _ (and_parts _ _ h).0).0))
 set_lock (Moving p) t x y h other = absurd (other p refl (eqb-true _ _ (and_parts _ _ (and_parts _ _ h).0).0))
@@ -190,14 +191,14 @@ module _ (net : NetworkPlan) (line : Line) (tries : ℕ) (s : State) (network : 
       ∙ set_connects net row.b.0 row.s.0 row.s2.0 row.x.0 row.y.0 side.0 (are.to_arm _ _ _ (row_from t k within)) (are.to_arm _ _ _ (row_to t k within)) side.2
 
   -- the path of a letter in hand
-  asked_at : (b t : ℕ) (l : Letter) → HasTaken line s b t l → l.verb ≡ verbs.Lock → IsPathAt net line b (path_of t l)
+  asked_at : (b t : ℕ) (l : Letter) → HasTaken line s b t l → l.verb ≡ verbs.Lock → IsPathAt net line b (path_of (train t) l)
   asked_at b t l has verb =
-      path_at net line t (s.trains t) b (path_of t l) laws of
+      path_at net line t (s.trains t) b (path_of (train t) l) laws of
       (subst (λ z. IsOwnPath line t (s.trains t) z l.x.0 l.y.0) has.to (lock_path line tries s t l agrees has.waits has.letter verb))
 
-  unlocked_at : (b t : ℕ) (l : Letter) → HasTaken line s b t l → l.verb ≡ verbs.Unlock → IsPathAt net line b (path_of t l)
+  unlocked_at : (b t : ℕ) (l : Letter) → HasTaken line s b t l → l.verb ≡ verbs.Unlock → IsPathAt net line b (path_of (train t) l)
   unlocked_at b t l has verb =
-      path_at net line t (s.trains t) b (path_of t l) laws of
+      path_at net line t (s.trains t) b (path_of (train t) l) laws of
       (subst (λ z. IsOwnPath line t (s.trains t) z l.x.0 l.y.0) has.to (unlock_path line tries s t l agrees has.waits has.letter verb))
 
   -- the path of a lock
@@ -213,18 +214,18 @@ module _ (net : NetworkPlan) (line : Line) (tries : ℕ) (s : State) (network : 
   lock_now_moves : (b t : ℕ) (l : Letter) (side : Side) → Fits line s (lock_now b t l side) → HasTaken line s b t l → IsMove net (world_at net s) (world_at net (next line s (lock_now b t l side))) (moves.Lock (train t) (box b) (seg_at line b l.x) (seg_at line b l.y))
   lock_now_moves b t l side fits has =
       let held = lock_held line tries s b t l laws agrees has fits.1 in
-      lock_moves net line s b (path_of t l) are (asked_at b t l has fits.1) side (Locked (path_of t l)) fits.2 held.0 held.1 (λ u f g. refl)
+      lock_moves net line s b (path_of (train t) l) are (asked_at b t l has fits.1) side (Locked (path_of (train t) l)) fits.2 held.0 held.1 (λ u f g. refl)
       (stands_now (kind_of net b) l.x.0 l.y.0 side (joins_net b l.x.0 l.y.0 side true fits.3))
 
   lock_ask_moves : (b t : ℕ) (l : Letter) (side : Side) → Fits line s (lock_ask b t l side) → HasTaken line s b t l → IsMove net (world_at net s) (world_at net (next line s (lock_ask b t l side))) (moves.Lock (train t) (box b) (seg_at line b l.x) (seg_at line b l.y))
   lock_ask_moves b t l side fits has =
       let held = lock_held line tries s b t l laws agrees has fits.1 in
-      lock_moves net line s b (path_of t l) are (asked_at b t l has fits.1) side (Asked (path_of t l)) fits.2 held.0 held.1 (λ u f g. refl)
+      lock_moves net line s b (path_of (train t) l) are (asked_at b t l has fits.1) side (Asked (path_of (train t) l)) fits.2 held.0 held.1 (λ u f g. refl)
       (stands_asked (kind_of net b) l.x.0 l.y.0 side (joins_net b l.x.0 l.y.0 side false fits.3) (joins_net b l.x.0 l.y.0 (other_side side) true fits.4))
 
   unlock_step_moves : (b t : ℕ) (l : Letter) (side : Side) → Fits line s (unlock b t l side) → HasTaken line s b t l → IsMove net (world_at net s) (world_at net (next line s (unlock b t l side))) (moves.Unlock (train t) (box b))
   unlock_step_moves b t l side fits has =
-      unlock_moves net line s b (path_of t l) are (unlocked_at b t l has fits.1) side fits.2
+      unlock_moves net line s b (path_of (train t) l) are (unlocked_at b t l has fits.1) side fits.2
       (ap (λ k. joining_side k l.x.0 l.y.0) (sym (of.kind b)) ∙ fits.3)
       (λ c f g. ap (λ v. is_across (route_segment net t) (route_box net t) v c f g) (asks_standing t has.active))
 
@@ -243,8 +244,18 @@ module _ (net : NetworkPlan) (line : Line) (tries : ℕ) (s : State) (network : 
       let p = set.0 in
       let path = set_at b p (ap (λ w. is_locked_by w p.train.0 p.x.0 p.y.0) set.1 ∙ and_from _ _ (and_from _ _ (eq-eqb p.train.0 p.train.0 refl) (eq-eqb p.x.0 p.x.0 refl)) (eq-eqb p.y.0 p.y.0 refl)) in
       record {
-        guarded = ((other, (_, _, ap (λ v. locks (segment_at net b) v u.0 (seg_at line b p.x).0 (seg_at line b p.y).0) set.1
-        ∙ and_from _ _ (and_from _ _ (eq-eqb p.train.0 u.0 (ap (λ z. z.0) set.2)) (number_is _ _ path.x)) (number_is _ _ path.y))), tt);
+        guarded = (
+          (
+            other,
+            (
+              _,
+              _,
+              ap (λ v. locks (segment_at net b) v u.0 (seg_at line b p.x).0 (seg_at line b p.y).0) set.1
+                  ∙ and_from _ _ (and_from _ _ (eq-eqb p.train.0 u.0 (ap (λ z. z.0) set.2)) (number_is _ _ path.x)) (number_is _ _ path.y),
+            ),
+          ),
+          tt,
+        );
         world = refl;
       }
 

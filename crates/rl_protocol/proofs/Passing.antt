@@ -1,9 +1,8 @@
 -- The moves Enter and Leave: their guards hold, and their changes are those of the run words.
 use Rattle.std.proofs.Common.{◌≡◌, ◌≢◌, ℕ, ◌+◌, ◌<◌, ◌==◌, Bool, true, false, cond, not, ◌&&◌, ◌||◌, slice_get, Option, Some, None, option_and_then, refl, sym, ap, ◌∙◌, subst, arith}
-use Rattle.std.specs.Prelude.{is_some, unwrap_or}
 use Rattle.std.specs.Option.{option_map_or}
 use Rattle.std.proofs.Math.Path.{fun_ext}
-use Rattle.std.proofs.lemmas.Bool.{eq-eqb, and_parts, and_from, eqb-true, false≢true, cond_both}
+use Rattle.std.proofs.lemmas.Bool.{eq-eqb, and_from, false≢true}
 use Rattle.std.proofs.lemmas.Bool.Decides.{nat_tests}
 use Rattle.rl_base.specs.declared.kind.Kind.{Kind}
 use Rattle.rl_base.specs.declared.kind.Kind.TheVariants.{Buffer, Joint, Point, Crossing}
@@ -13,7 +12,7 @@ use Rattle.rl_base.specs.Kind.{arms_join}
 use Rattle.rl_model.specs.declared.network.Segment.{Segment}
 use Rattle.rl_model.specs.declared.network.NetworkPlan.{NetworkPlan}
 use Rattle.rl_model.specs.declared.moves.Move.TheVariants as moves
-use Rattle.rl_model.specs.Network.{kind_of, arm_at, arm_of, segment_at, steps_of, route_segment, route_box, connects, IsStep}
+use Rattle.rl_model.specs.Network.{kind_of, arm_at, arm_of, steps_of, route_segment, route_box, connects, IsStep}
 use Rattle.rl_model.specs.World.{World, points_connect}
 use Rattle.rl_model.specs.Moves.{holds_ends}
 use Rattle.rl_words.specs.declared.lock.LockWord.{LockWord}
@@ -21,7 +20,7 @@ use Rattle.rl_words.specs.declared.run.RunWord.{RunWord}
 use Rattle.rl_words.specs.declared.run.RunWord.TheVariants.{Clear, Go, Across}
 use Rattle.rl_protocol.specs.Line.{Line}
 use Rattle.rl_protocol.specs.State.{State, put}
-use Rattle.rl_protocol.specs.Steps.{train}
+use Rattle.rl_protocol.specs.Minds.{train}
 use Rattle.rl_protocol.specs.Agreement.{is_locked_by}
 use Rattle.rl_protocol.specs.Worlds.{is_number, stands_on, is_across, steps_made, locks, standing, world_at}
 use Rattle.rl_protocol.proofs.Reserving.{IsMove}
@@ -58,28 +57,39 @@ number_is o n h = ap (λ p. is_number p n) h ∙ eq-eqb n n refl
 
 module _ (net : NetworkPlan) (line : Line) (s : State) (t k : ℕ) (step : let row = line.row t k in IsStep net t k row.s.0 row.b.0 row.s2.0) where
   pub enter_moves : k < steps_of net t → s.run t ≡ Go k → (let row = line.row t k in (holds_ends (world_at net s) net t row.s2.0 ≡ true) × ((world_at net s).locked row.b.0 t row.s.0 row.s2.0 ≡ true) × (points_connect net row.b.0 row.s.0 row.s2.0 ((world_at net s).points row.b.0) ≡ true))
-    → let row = line.row t k in IsMove net (world_at net s) (world_at net (record s { run = put s.run t (Across k) })) (moves.Enter (train t) row.b row.s row.s2)
+      → let row = line.row t k in IsMove net (world_at net s) (world_at net (record s { run = put s.run t (Across k) })) (moves.Enter (train t) row.b row.s row.s2)
   enter_moves below goes has =
       let made : (world_at net s).made t ≡ k = ap steps_made goes in
       record {
-        guarded = ((subst (λ n. n < steps_of net t) (sym made) below, subst (λ n. IsStep net t n (line.row t k).s.0 (line.row t k).b.0 (line.row t k).s2.0) (sym made) step),
-        ((ap (λ v. stands_on (route_segment net t) v (line.row t k).s.0) goes ∙ number_is _ _ step.from, (λ c f g. ap (λ v. is_across (route_segment net t) (route_box net t) v c f g) goes)),
-        (has.0, (has.1, (has.2, tt)))));
+        guarded = (
+          (subst (λ n. n < steps_of net t) (sym made) below, subst (λ n. IsStep net t n (line.row t k).s.0 (line.row t k).b.0 (line.row t k).s2.0) (sym made) step),
+          (
+            (ap (λ v. stands_on (route_segment net t) v (line.row t k).s.0) goes ∙ number_is _ _ step.from, (λ c f g. ap (λ v. is_across (route_segment net t) (route_box net t) v c f g) goes)),
+            (has.0, (has.1, (has.2, tt))),
+          ),
+        );
         world = rerun (world_at net s) _ _ _ _ _ _
-        (enter_stands (route_segment net) (route_box net) s.run t k _ _ _ step.from step.through step.to goes)
-        (enter_across (route_segment net) (route_box net) s.run t k _ _ _ step.from step.through step.to goes)
-        (enter_made (route_segment net) (route_box net) s.run t k _ _ _ step.from step.through step.to goes);
+            (enter_stands (route_segment net) (route_box net) s.run t k _ _ _ step.from step.through step.to goes)
+            (enter_across (route_segment net) (route_box net) s.run t k _ _ _ step.from step.through step.to goes)
+            (enter_made (route_segment net) (route_box net) s.run t k _ _ _ step.from step.through step.to goes);
       }
 
   pub leave_moves : s.run t ≡ Across k → (line.row t k).s.0 ≢ (line.row t k).s2.0 → IsMove net (world_at net s) (world_at net (record s { run = put s.run t (Clear (k + 1)) })) (moves.Leave (train t) (line.row t k).s)
   leave_moves goes apart =
       record {
-        guarded = (((line.row t k).b.0, (line.row t k).s2.0, ap (λ v. is_across (route_segment net t) (route_box net t) v (line.row t k).b.0 (line.row t k).s.0 (line.row t k).s2.0) goes
-        ∙ and_from _ _ (and_from _ _ (number_is _ _ step.through) (number_is _ _ step.from)) (number_is _ _ step.to)), tt);
+        guarded = (
+          (
+            (line.row t k).b.0,
+            (line.row t k).s2.0,
+            ap (λ v. is_across (route_segment net t) (route_box net t) v (line.row t k).b.0 (line.row t k).s.0 (line.row t k).s2.0) goes
+                ∙ and_from _ _ (and_from _ _ (number_is _ _ step.through) (number_is _ _ step.from)) (number_is _ _ step.to),
+          ),
+          tt,
+        );
         world = rerun (world_at net s) _ _ _ _ _ _
-        (leave_stands (route_segment net) (route_box net) s.run t k _ _ _ step.from step.through step.to apart goes)
-        (leave_across (route_segment net) (route_box net) s.run t k _ _ _ step.from step.through step.to goes)
-        (leave_made (route_segment net) (route_box net) s.run t k _ _ _ step.from step.through step.to goes);
+            (leave_stands (route_segment net) (route_box net) s.run t k _ _ _ step.from step.through step.to apart goes)
+            (leave_across (route_segment net) (route_box net) s.run t k _ _ _ step.from step.through step.to goes)
+            (leave_made (route_segment net) (route_box net) s.run t k _ _ _ step.from step.through step.to goes);
       }
 
 -- a train that goes stands where it stood

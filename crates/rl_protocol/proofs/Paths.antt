@@ -1,24 +1,23 @@
 -- The path of a lock that is asked for or had is that of the step of its train.
-use Rattle.std.proofs.Common.{◌≡◌, ◌≢◌, ℕ, ◌+◌, ◌<◌, ◌==◌, Bool, true, false, cond, not, ◌&&◌, ◌||◌, Option, Some, None, refl, sym, ap, ◌∙◌, subst, inl, inr, ◌⊎◌, ⊎_elim, arith}
+use Rattle.std.proofs.Common.{◌≡◌, ℕ, ◌+◌, ◌<◌, ◌==◌, Bool, true, not, ◌&&◌, Option, Some, None, refl, sym, ap, ◌∙◌, subst, inl, inr, ◌⊎◌, ⊎_elim, arith}
 use Rattle.std.proofs.lemmas.Bool.{or_left, or_right, or_cases, and_parts, not_from_false}
 use Rattle.std.proofs.lemmas.Bool.Decides.{nat_tests}
 use Rattle.rl_base.specs.declared.job.Verb.{Verb}
 use Rattle.rl_base.specs.declared.job.Verb.TheVariants as verbs
 use Rattle.rl_model.specs.declared.network.NetworkPlan.{NetworkPlan}
-use Rattle.rl_model.specs.Network.{kind_of}
 use Rattle.rl_tables.specs.Kept.{can_join}
 use Rattle.rl_train.specs.declared.mind.TrainMind.{TrainMind}
 use Rattle.rl_words.specs.declared.lock.Path.{Path}
 use Rattle.rl_words.specs.declared.mail.Letter.{Letter}
-use Rattle.rl_words.specs.declared.mail.MailWord.TheVariants.{Empty, Ask, Taken, Yes, No}
+use Rattle.rl_words.specs.declared.mail.MailWord.TheVariants.{Taken, Yes}
 use Rattle.rl_protocol.specs.Line.{Line, at, is_held_by, IsConsistent}
 use Rattle.rl_protocol.specs.State.{State}
-use Rattle.rl_protocol.specs.Steps.{row_of, letter_of, letter_of_path, path_of}
+use Rattle.rl_protocol.specs.Minds.{row_of, letter_of}
 use Rattle.rl_protocol.specs.Held.{done_letter, holds, has_lock, job_holds, job_locks, locked_after, locked_with}
-use Rattle.rl_protocol.specs.Agreement.{Agrees, is_under_way, is_locked_by}
+use Rattle.rl_protocol.specs.Agreement.{Agrees}
 use Rattle.rl_protocol.specs.Worlds.{IsLineOf}
 use Rattle.rl_protocol.proofs.Known.{Waits, HasTaken, taken, answered}
-use Rattle.rl_protocol.proofs.Letters.{row_arms, here_at, ahead_at, AsksLock, asks_lock, AsksUnlock, asks_unlock, locks_only}
+use Rattle.rl_protocol.proofs.Letters.{row_arms, here_at, ahead_at, asks_lock, asks_unlock, locks_only}
 use Rattle.rl_protocol.proofs.Reserving.{there_at}
 use Rattle.rl_protocol.proofs.Locking.{IsPathAt}
 
@@ -90,6 +89,7 @@ lock_is_own line tries s t b x y agrees h = of (done_letter s t) refl h
           at_x = only.2;
           at_y = only.3;
         }
+
     of : (o : Option Letter) → done_letter s t ≡ o → locked_with o b x y (job_locks line t (s.trains t) b x y) ≡ true → IsOwnPath line t (s.trains t) b x y
     of None is h = by_job h
     of (Some l) is h =
@@ -112,9 +112,10 @@ lock_held line tries s b t l laws agrees has verb =
     let at_x : (row_of line t (s.trains t)).x.0 ≡ l.x.0 = sym (ap (λ z. z.0) asks.x) in
     let at_y : (row_of line t (s.trains t)).y.0 ≡ l.y.0 = sym (ap (λ z. z.0) asks.y) in
     let here_b : line.ends t (s.trains t).step b l.x.0 ≡ true = subst (λ z. line.ends t (s.trains t).step z l.x.0 ≡ true) at_box (subst (λ z. line.ends t (s.trains t).step (row_of line t (s.trains t)).b.0 z ≡ true) at_x here) in
-    let ahead_b : line.ends t ((s.trains t).step + 1) b l.y.0 ≡ true = subst (λ z. line.ends t ((s.trains t).step + 1) z l.y.0 ≡ true) at_box (subst (λ z. line.ends t ((s.trains t).step + 1) (row_of line t (s.trains t)).b.0 z ≡ true) at_y ahead) in
-    (agrees.reservations.exact t b l.x.0 ∙ by_job has.mail verb l.x.0 ∙ asks.holds _ _ b l.x.0 ∙ or_left _ _ here_b,
-    agrees.reservations.exact t b l.y.0 ∙ by_job has.mail verb l.y.0 ∙ asks.holds _ _ b l.y.0 ∙ or_right _ _ ahead_b)
+    let ahead_b : line.ends t ((s.trains t).step + 1) b l.y.0 ≡ true = subst (λ z. line.ends t ((s.trains t).step + 1) z l.y.0 ≡ true) at_box (subst (λ z. line.ends t ((s.trains t).step + 1) (row_of line t (s.trains t)).b.0 z ≡ true) at_y ahead) in (
+      agrees.reservations.exact t b l.x.0 ∙ by_job has.mail verb l.x.0 ∙ asks.holds _ _ b l.x.0 ∙ or_left _ _ here_b,
+      agrees.reservations.exact t b l.y.0 ∙ by_job has.mail verb l.y.0 ∙ asks.holds _ _ b l.y.0 ∙ or_right _ _ ahead_b,
+    )
   where
     by_job : s.mail t ≡ Taken l → l.verb ≡ verbs.Lock → (x : ℕ) → holds line s t b x ≡ job_holds line t (s.trains t) b x
     by_job mail verb x = grind (arith, nat_tests)

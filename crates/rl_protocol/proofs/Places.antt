@@ -1,8 +1,6 @@
 -- Arms and segments of a network: a segment has an arm at a box exactly where the box has the segment at that arm.
-use Rattle.std.proofs.Common.{◌≡◌, ◌≢◌, ℕ, ◌+◌, ◌<◌, ◌==◌, Bool, true, false, cond, not, ◌&&◌, ◌||◌, List, slice_get, Option, Some, None, option_and_then, refl, sym, ap, ◌∙◌, subst, arith}
-use Rattle.std.specs.Prelude.{is_some, option_map}
-use Rattle.std.specs.Option.{option_map_or}
-use Rattle.std.proofs.lemmas.Bool.{false≢true}
+use Rattle.std.proofs.Common.{◌≡◌, ℕ, ◌==◌, Bool, true, false, cond, slice_get, Some, None, refl, subst, arith}
+use Rattle.std.specs.Prelude.{option_map}
 use Rattle.std.proofs.lemmas.Bool.Decides.{nat_tests}
 use Rattle.std.proofs.lemmas.Option.{option_and_then_some}
 use Rattle.rl_base.specs.declared.ids.SegId.{SegId}
@@ -10,7 +8,6 @@ use Rattle.rl_model.specs.declared.network.Segment.{Segment}
 use Rattle.rl_model.specs.declared.network.SwitchBox.{SwitchBox}
 use Rattle.rl_model.specs.declared.network.NetworkPlan.{NetworkPlan}
 use Rattle.rl_model.specs.Network.{arm_at, arm_of, segment_at, IsSegment, IsNetwork}
-use Rattle.rl_protocol.specs.Worlds.{is_number, same_number}
 
 -- a segment is at arm x of box b exactly where that arm of the box has it
 pub record ArePlaced (net : NetworkPlan) : Type 0 where
@@ -26,8 +23,10 @@ one_end net s b x g is h =
   where
     at_box : (y : ℕ) → (y == b) ≡ true → y ≡ b
     at_box y e = grind (arith, nat_tests)
+
     same : {y z : ℕ} → Some y ≡ Some z → y ≡ z
     same e = cc
+
     end_is : (p q : Bool) {P : Type 0} → cond p (Some g.low.arm.0) (cond q (Some g.high.arm.0) None) ≡ Some x → (p ≡ true → Some g.low.arm.0 ≡ Some x → P) → (q ≡ true → Some g.high.arm.0 ≡ Some x → P) → P
     end_is true q h low high = low refl h
     end_is false true h low high = high refl h

@@ -1,5 +1,5 @@
 -- Every step keeps what lock words and boxes say of points.
-use Rattle.std.proofs.Common.{◌≡◌, ◌≢◌, ℕ, ◌+◌, ◌-◌, ◌<◌, ◌==◌, Bool, true, false, cond, not, ◌&&◌, ◌||◌, Option, Some, None, refl, sym, ap, ◌∙◌, subst, ◌⊎◌, inl, inr, ⊎_elim, arith}
+use Rattle.std.proofs.Common.{◌≡◌, ℕ, true, false, Some, refl, sym, ◌∙◌, arith}
 use Rattle.std.proofs.lemmas.Bool.{false≢true}
 use Rattle.std.proofs.lemmas.Bool.Decides.{nat_tests}
 use Rattle.rl_base.specs.declared.kind.Kind.{Kind}
@@ -9,7 +9,8 @@ use Rattle.rl_base.specs.Kind.{arms_join}
 use Rattle.rl_words.specs.declared.lock.Path.{Path}
 use Rattle.rl_protocol.specs.Line.{Line}
 use Rattle.rl_protocol.specs.State.{State}
-use Rattle.rl_protocol.specs.Steps.{Step, Fits, next, other_side}
+use Rattle.rl_box.specs.Steps.{other_side}
+use Rattle.rl_protocol.specs.Steps.{Step, Fits, next}
 use Rattle.rl_protocol.specs.Agreement.{path_in_setting}
 use Rattle.rl_protocol.proofs.Known.{Known}
 

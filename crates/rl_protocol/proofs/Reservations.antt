@@ -1,15 +1,15 @@
 -- Every step keeps the agreement on reservations.
-use Rattle.std.proofs.Common.{◌≡◌, ◌≢◌, ℕ, ◌+◌, ◌-◌, ◌<◌, ◌==◌, Bool, true, false, cond, not, ◌&&◌, ◌||◌, Option, Some, None, refl, sym, ap, ◌∙◌, subst, ◌⊎◌, inl, inr, ⊎_elim, arith}
+use Rattle.std.proofs.Common.{◌≡◌, ℕ, ◌<◌, true, false, Some, None, arith}
 use Rattle.std.proofs.lemmas.Bool.{or_left}
 use Rattle.std.proofs.lemmas.Bool.Decides.{nat_tests}
-use Rattle.rl_base.specs.declared.ids.TrainId.{TrainId}
 use Rattle.rl_words.specs.declared.mail.Letter.{Letter}
 use Rattle.rl_words.specs.declared.mail.MailWord.TheVariants.{Yes}
 use Rattle.rl_protocol.specs.Line.{Line, at, is_held_by, IsConsistent}
 use Rattle.rl_protocol.specs.State.{State}
-use Rattle.rl_protocol.specs.Steps.{Step, post, hear_yes, hear_no, go, quiet, take, grant, refuse, release, lock_now, lock_ask, lock_moved, unlock, say_yes, say_no, busy, throw, settle, enter, head, leave, tail, Fits, next, heard, row_of, letter_of}
-use Rattle.rl_protocol.specs.Held.{holds, held_with, held_after, job_holds}
-use Rattle.rl_protocol.specs.Agreement.{AgreesOnAttempts, AgreesOnReservations}
+use Rattle.rl_protocol.specs.Minds.{heard, row_of, letter_of}
+use Rattle.rl_protocol.specs.Steps.{Step, post, hear_yes, hear_no, go, quiet, take, grant, refuse, release, lock_now, lock_ask, lock_moved, unlock, say_yes, say_no, busy, throw, settle, enter, head, leave, tail, Fits, next}
+use Rattle.rl_protocol.specs.Held.{holds, held_after, job_holds}
+use Rattle.rl_protocol.specs.Agreement.{AgreesOnAttempts}
 use Rattle.rl_protocol.proofs.Known.{Known}
 use Rattle.rl_protocol.proofs.Letters.{row_arms, letter_arm}
 use Rattle.rl_protocol.proofs.JobHolds.{heard_holds, denied_holds, passed_holds}

@@ -1,5 +1,5 @@
 -- The moves Reserve and Release: their guards hold, and their changes are those of the reservation words.
-use Rattle.std.proofs.Common.{◌≡◌, ◌≢◌, ℕ, ◌+◌, ◌<◌, ◌==◌, Bool, true, false, cond, not, ◌&&◌, ◌||◌, Option, Some, None, refl, sym, ap, ◌∙◌, subst, arith}
+use Rattle.std.proofs.Common.{◌≡◌, ℕ, ◌==◌, true, false, cond, not, ◌&&◌, ◌||◌, Option, Some, None, refl, ap, ◌∙◌, arith}
 use Rattle.std.specs.Prelude.{is_some}
 use Rattle.std.specs.Option.{option_map_or}
 use Rattle.std.proofs.Math.Path.{fun_ext}
@@ -15,7 +15,9 @@ use Rattle.rl_model.specs.declared.moves.Move.TheVariants as moves
 use Rattle.rl_words.specs.declared.mail.Letter.{Letter}
 use Rattle.rl_protocol.specs.Line.{Line, is_held_by}
 use Rattle.rl_protocol.specs.State.{State, put_at}
-use Rattle.rl_protocol.specs.Steps.{Step, grant, release, next, train, box, seg_at}
+use Rattle.rl_protocol.specs.Minds.{train, box}
+use Rattle.rl_protocol.specs.Steps.{grant, release, next}
+use Rattle.rl_protocol.specs.StepMoves.{seg_at}
 use Rattle.rl_protocol.specs.Worlds.{IsLineOf, world_at}
 use Rattle.rl_protocol.proofs.Places.{ArePlaced}
 
@@ -53,7 +55,7 @@ module _ (net : NetworkPlan) (line : Line) (s : State) (b t : ℕ) (l : Letter) 
       record {
         guarded = (ap is_some arm_there, (λ u. held_at net s u (seg_at line b l.x).0 b l.x.0 arm_there ∙ ap (is_held_by u) free, tt));
         world = ap (λ h. record (world_at net s) { holds = h })
-        (fun_ext (λ u. fun_ext (λ r. fun_ext (λ c. reserve_one (arm_of net) (segment_at net) are.to_segment s.resv t (seg_at line b l.x).0 b l.x.0 segment_there arm_there free u r c (arm_of net r c) refl))));
+            (fun_ext (λ u. fun_ext (λ r. fun_ext (λ c. reserve_one (arm_of net) (segment_at net) are.to_segment s.resv t (seg_at line b l.x).0 b l.x.0 segment_there arm_there free u r c (arm_of net r c) refl))));
       }
 
   pub release_moves : s.resv b l.x.0 ≡ Some (train t) → (world_at net s).occupies t (seg_at line b l.x).0 ≡ false → IsMove net (world_at net s) (world_at net (next line s (release b t l))) (moves.Release (train t) (seg_at line b l.x) (box b))
@@ -61,5 +63,5 @@ module _ (net : NetworkPlan) (line : Line) (s : State) (b t : ℕ) (l : Letter) 
       record {
         guarded = (ap is_some arm_there, (held_at net s t (seg_at line b l.x).0 b l.x.0 arm_there ∙ ap (is_held_by t) held ∙ eq-eqb t t refl, (off, tt)));
         world = ap (λ h. record (world_at net s) { holds = h })
-        (fun_ext (λ u. fun_ext (λ r. fun_ext (λ c. release_one (arm_of net) (segment_at net) are.to_segment s.resv t (seg_at line b l.x).0 b l.x.0 segment_there arm_there held u r c (arm_of net r c) refl))));
+            (fun_ext (λ u. fun_ext (λ r. fun_ext (λ c. release_one (arm_of net) (segment_at net) are.to_segment s.resv t (seg_at line b l.x).0 b l.x.0 segment_there arm_there held u r c (arm_of net r c) refl))));
       }

@@ -1,20 +1,17 @@
 -- The moves of every run are guarded, and leave the world of its state.
-use Rattle.std.proofs.Common.{◌≡◌, ◌≢◌, ℕ, ◌+◌, ◌<◌, ◌==◌, Bool, true, false, cond, ◌&&◌, List, [], ◌∷◌, ◌++◌, append-nil, slice_get, Option, Some, None, refl, sym, ap, ◌∙◌, subst, arith}
+use Rattle.std.proofs.Common.{◌≡◌, ◌≢◌, ℕ, Bool, true, false, ◌&&◌, List, [], ◌∷◌, ◌++◌, append-nil, slice_get, Option, Some, None, refl, sym, ap, ◌∙◌, subst}
 use Rattle.std.specs.Prelude.{is_some, fold, option_to_list}
 use Rattle.std.specs.Option.{option_map_or}
 use Rattle.std.proofs.Math.Path.{fun_ext}
 use Rattle.std.proofs.lemmas.Grind.{fold-append}
-use Rattle.std.proofs.lemmas.Bool.{false≢true}
-use Rattle.std.proofs.lemmas.Bool.Decides.{nat_tests}
 use Rattle.rl_base.specs.declared.kind.Kind.{Kind}
 use Rattle.rl_base.specs.declared.kind.Kind.TheVariants.{Buffer, Joint, Point, Crossing}
 use Rattle.rl_base.specs.declared.kind.Side.{Side}
-use Rattle.rl_base.specs.declared.kind.Side.TheVariants.{Left, Right}
+use Rattle.rl_base.specs.declared.kind.Side.TheVariants.{Left}
 use Rattle.rl_model.specs.declared.moves.Move.{Move}
-use Rattle.rl_model.specs.declared.moves.Points.{Points}
 use Rattle.rl_model.specs.declared.network.SwitchBox.{SwitchBox}
 use Rattle.rl_model.specs.declared.network.NetworkPlan.{NetworkPlan}
-use Rattle.rl_model.specs.Network.{kind_of, start_side, segment_at, arm_of, has_end, route_segment, IsNetwork}
+use Rattle.rl_model.specs.Network.{kind_of, start_side, arm_of, route_segment, IsNetwork}
 use Rattle.rl_model.specs.World.{World, start, starts_on, points_at}
 use Rattle.rl_model.specs.Moves.{guards, AllHold, after}
 use Rattle.rl_model.specs.Safety.{GuardedFrom, Guarded, IsSafeRun, world_after}
@@ -22,10 +19,11 @@ use Rattle.rl_model.proofs.Kept.{safe_run}
 use Rattle.rl_protocol.specs.Line.{Line, is_held_by, IsConsistent}
 use Rattle.rl_protocol.specs.State.{State}
 use Rattle.rl_protocol.specs.State.{start as start_state}
-use Rattle.rl_protocol.specs.Steps.{Step, Fits, next, move_of}
+use Rattle.rl_protocol.specs.Steps.{Step, Fits, next}
+use Rattle.rl_protocol.specs.StepMoves.{move_of}
 use Rattle.rl_protocol.specs.Runs.{state_after, IsRun, moves_of}
 use Rattle.rl_protocol.specs.Agreement.{Agrees}
-use Rattle.rl_protocol.specs.Worlds.{is_number, same_number, IsLineOf, IsRailway, standing, world_at}
+use Rattle.rl_protocol.specs.Worlds.{same_number, IsLineOf, IsRailway, standing, world_at}
 use Rattle.rl_protocol.proofs.Agreed.{agrees, known_of}
 use Rattle.rl_protocol.proofs.Places.{ArePlaced, placed}
 use Rattle.rl_protocol.proofs.Reserving.{IsMove}
@@ -58,6 +56,7 @@ start_stands net b network = of (slice_get net.boxes b) (λ x h. (network.boxes 
     at_left Buffer side h = sym (ap points_at (h (λ e. cc)))
     at_left Joint side h = sym (ap points_at (h (λ e. cc)))
     at_left Crossing side h = sym (ap points_at (h (λ e. cc)))
+
     of : (o : Option SwitchBox) → ((x : SwitchBox) → o ≡ Some x → x.kind ≢ Point → x.side ≡ Left) → standing (option_map_or (λ (x : SwitchBox). x.kind) o Buffer) (option_map_or (λ (x : SwitchBox). x.side) o Left) ≡ points_at (option_map_or (λ (x : SwitchBox). x.side) o Left)
     of None h = refl
     of (Some x) h = at_left x.kind x.side (h x refl)
@@ -80,12 +79,13 @@ pub record IsFollowed (net : NetworkPlan) (line : Line) (tries : ℕ) (steps : L
   pub world : world_at net (state_after line tries steps) ≡ world_after net (moves_of line steps)
 
 followed_more : (net : NetworkPlan) (line : Line) (tries : ℕ) (steps : List Step) (step : Step) (o : Option Move) → IsFollowed net line tries steps → MovesBy net (world_at net (state_after line tries steps)) (world_at net (state_after line tries (step ∷ steps))) o
-  → GuardedFrom net (start net) (moves_of line steps ++ option_to_list o) × (world_at net (state_after line tries (step ∷ steps)) ≡ fold after (start net) (moves_of line steps ++ option_to_list o))
+    → GuardedFrom net (start net) (moves_of line steps ++ option_to_list o) × (world_at net (state_after line tries (step ∷ steps)) ≡ fold after (start net) (moves_of line steps ++ option_to_list o))
 followed_more net line tries steps step None before by =
     (subst (GuardedFrom net (start net)) (sym (append-nil (moves_of line steps))) before.guarded, by ∙ before.world ∙ ap (fold after (start net)) (sym (append-nil (moves_of line steps))))
-followed_more net line tries steps step (Some m) before by =
-    (guarded_more net (start net) (moves_of line steps) m before.guarded (subst (λ w. AllHold (guards net w m)) before.world by.guarded),
-    by.world ∙ ap (λ w. after w m) before.world ∙ sym (fold-append after (start net) (moves_of line steps) (m ∷ [])))
+followed_more net line tries steps step (Some m) before by = (
+  guarded_more net (start net) (moves_of line steps) m before.guarded (subst (λ w. AllHold (guards net w m)) before.world by.guarded),
+  by.world ∙ ap (λ w. after w m) before.world ∙ sym (fold-append after (start net) (moves_of line steps) (m ∷ [])),
+)
 
 pub followed : (net : NetworkPlan) (line : Line) (tries : ℕ) (steps : List Step) → IsRailway net line → IsRun line tries steps → IsFollowed net line tries steps
 followed net line tries [] is run = record { guarded = tt; world = start_world net line tries is }

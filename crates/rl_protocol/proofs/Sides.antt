@@ -1,5 +1,5 @@
 -- Sides and points: at which side a box connects a path, and how its points stand then.
-use Rattle.std.proofs.Common.{◌≡◌, ◌≢◌, ℕ, ◌+◌, ◌<◌, ◌==◌, Bool, true, false, cond, not, ◌&&◌, ◌||◌, Option, Some, None, refl, sym, ap, ◌∙◌, subst, arith}
+use Rattle.std.proofs.Common.{◌≡◌, ◌≢◌, ℕ, Bool, true, false, cond, ◌||◌, Some, None, refl, arith}
 use Rattle.std.specs.Prelude.{unwrap_or}
 use Rattle.std.proofs.lemmas.Bool.{false≢true}
 use Rattle.std.proofs.lemmas.Bool.Decides.{nat_tests}
@@ -11,8 +11,8 @@ use Rattle.rl_base.specs.Kind.{arms_join, joining_side}
 use Rattle.rl_tables.specs.Kept.{can_join}
 use Rattle.rl_model.specs.declared.moves.Points.TheVariants as points
 use Rattle.rl_model.specs.World.{points_at}
-use Rattle.rl_protocol.specs.Steps.{other_side}
-use Rattle.rl_protocol.specs.Worlds.{standing, moving}
+use Rattle.rl_box.specs.Steps.{other_side}
+use Rattle.rl_protocol.specs.Worlds.{standing}
 
 -- a box connects two different arms
 pub join_apart : (kind : Kind) (x y : ℕ) → can_join kind x y ≡ true → x ≢ y

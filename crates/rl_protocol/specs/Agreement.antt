@@ -19,13 +19,14 @@ use Rattle.rl_train.specs.declared.mind.TrainMind.{TrainMind}
 use Rattle.rl_box.specs.declared.mind.Answer.{Answer}
 use Rattle.rl_box.specs.declared.mind.Answer.TheVariants as answers
 use Rattle.rl_box.specs.declared.mind.BoxMind.{BoxMind}
-use Rattle.rl_box.specs.declared.mind.Work.TheVariants.{Ready, Serve, Say}
+use Rattle.rl_box.specs.declared.mind.Work.TheVariants.{Serve, Say}
 use Rattle.rl_track.specs.declared.track.TrackMind.{TrackMind}
 use Rattle.rl_track.specs.declared.track.TrackPhase.TheVariants.{Watch, HeadDue, LeaveDue, TailDue}
+use Rattle.rl_track.specs.Track.{track_at}
 use Rattle.rl_protocol.specs.Line.{Line, is_held_by}
 use Rattle.rl_protocol.specs.Jobs.{passes, begins, has_passed, is_open}
 use Rattle.rl_protocol.specs.State.{State}
-use Rattle.rl_protocol.specs.Steps.{letter_of, letter_of_path}
+use Rattle.rl_protocol.specs.Minds.{train, letter_of, letter_of_path}
 use Rattle.rl_protocol.specs.Held.{holds, has_lock}
 
 -- 1. Reservations. The reservation words say exactly what the trains hold, and arms that aren't there are free
@@ -33,10 +34,11 @@ pub record AgreesOnReservations (line : Line) (s : State) : Type 0 where
   pub exact : (t b x : ℕ) → is_held_by t (s.resv b x) ≡ holds line s t b x
   pub free : (b x : ℕ) → line.has_arm b x ≡ false → s.resv b x ≡ None
 
--- the lock in a lock word is train t's, from arm x to arm y
+-- the path is train t's, from arm x to arm y
 abbrev pub is_path : Path → (t x y : ℕ) → Bool
 is_path p t x y = p.train.0 == t && p.x.0 == x && p.y.0 == y
 
+-- the lock in a lock word is for that path
 abbrev pub is_locked_by : LockWord → (t x y : ℕ) → Bool
 is_locked_by (Free side) t x y = false
 is_locked_by (Asked p) t x y = is_path p t x y
@@ -52,12 +54,22 @@ path_in_setting (Moving p) = Some p
 path_in_setting (Moved p) = Some p
 path_in_setting (Locked p) = None
 
--- 2. Locks. The lock words say exactly which locks the trains have; the points are being set exactly for the path for
--- which the box waits, and only a point is ever set
+-- box b serves a letter of train t, has an answer to it to say, or waits until its points are set for a path
+abbrev pub Serves : State → (b : ℕ) → TrainId → Letter → Type 0
+Serves s b t l = (s.boxes b).work ≡ Serve t l
+
+abbrev pub Says : State → (b : ℕ) → TrainId → Letter → Answer → Type 0
+Says s b t l answer = (s.boxes b).work ≡ Say t l answer
+
+abbrev pub WaitsFor : State → (b : ℕ) → Path → Type 0
+WaitsFor s b p = (s.boxes b).waiting ≡ Some p
+
+-- 2. Locks. The lock words say exactly which locks the trains have. The points of a box are being set exactly for the
+-- path for which it waits, and only a point waits
 pub record AgreesOnLocks (line : Line) (s : State) : Type 0 where
   pub exact : (t b x y : ℕ) → is_locked_by (s.lock b) t x y ≡ has_lock line s t b x y
   pub waiting : (b : ℕ) → (s.boxes b).waiting ≡ path_in_setting (s.lock b)
-  pub points : (b : ℕ) (p : Path) → (s.boxes b).waiting ≡ Some p → line.kind b ≡ Point
+  pub points : (b : ℕ) (p : Path) → WaitsFor s b p → line.kind b ≡ Point
 
 -- the mailbox has the letter, asked, taken or answered; only a reservation or a lock is answered No
 abbrev pub Carries : MailWord → Letter → Type 0
@@ -67,46 +79,59 @@ Carries (Taken k) l = k ≡ l
 Carries (Yes k) l = k ≡ l
 Carries (No k u) l = (k ≡ l) × IsRefusable k.verb
 
+-- the letter of the job that train t has in hand
+abbrev pub HasLetter : Line → State → (t : ℕ) → Letter → Type 0
+HasLetter line s t l = letter_of line t (s.trains t) ≡ Some l
+
 -- the train waits for the answer to a letter
 abbrev pub asks : TrainMind → Bool
 asks m = m.waits && not (passes m.job)
 
--- box b serves train t, says it an answer, or waits for its points
+-- the letter of train t is taken, by box b
+abbrev pub IsTakenBy : State → (b t : ℕ) → Letter → Type 0
+IsTakenBy s b t l = (s.mail t ≡ Taken l) × (l.to.0 ≡ b)
+
+-- a box with the mind, of number b, serves the letter of train t, says an answer to it, or waits for its points
 abbrev pub IsAtWork : BoxMind → (b t : ℕ) → Letter → Type 0
 IsAtWork m b t l =
-    (m.work ≡ Serve (record { 0 = t }) l)
-    ⊎ (((answer : Answer) × (m.work ≡ Say (record { 0 = t }) l answer))
+    (m.work ≡ Serve (train t) l)
+    ⊎ (((answer : Answer) × (m.work ≡ Say (train t) l answer))
     ⊎ ((p : Path) × (m.waiting ≡ Some p) × (p.train.0 ≡ t) × (l ≡ letter_of_path b p)))
 
--- 3. Mailboxes. A train that asks nothing has an empty mailbox, and one that asks has its letter there. A letter that is
--- taken is in the work of its box, and nowhere else: what a box serves, answers or waits for is a letter taken by it,
--- and only one of these
+-- 3. Mailboxes. A train that asks nothing has an empty mailbox, and one that asks has its letter there. A letter that
+-- is taken is in the work of its box, and nothing else is in the work of a box: what a box serves, answers or waits for
+-- is a letter that it has taken. For one train it does only one of these
 pub record AgreesOnMailboxes (line : Line) (s : State) : Type 0 where
   pub empty : (t : ℕ) → asks (s.trains t) ≡ false → s.mail t ≡ Empty
-  pub letter : (t : ℕ) (l : Letter) → (s.trains t).waits ≡ true → letter_of line t (s.trains t) ≡ Some l → Carries (s.mail t) l
+  pub letter : (t : ℕ) (l : Letter) → (s.trains t).waits ≡ true → HasLetter line s t l → Carries (s.mail t) l
   pub taken : (t : ℕ) (l : Letter) → s.mail t ≡ Taken l → IsAtWork (s.boxes l.to.0) l.to.0 t l
-  pub serves : (b : ℕ) (t : TrainId) (l : Letter) → (s.boxes b).work ≡ Serve t l → (s.mail t.0 ≡ Taken l) × (l.to.0 ≡ b)
-  pub says : (b : ℕ) (t : TrainId) (l : Letter) (answer : Answer) → (s.boxes b).work ≡ Say t l answer → (s.mail t.0 ≡ Taken l) × (l.to.0 ≡ b)
-  pub waits : (b : ℕ) (p : Path) → (s.boxes b).waiting ≡ Some p → s.mail p.train.0 ≡ Taken (letter_of_path b p)
-  pub serves_one : (b : ℕ) (t : TrainId) (l : Letter) (p : Path) → (s.boxes b).work ≡ Serve t l → (s.boxes b).waiting ≡ Some p → p.train.0 ≢ t.0
-  pub says_one : (b : ℕ) (t : TrainId) (l : Letter) (answer : Answer) (p : Path) → (s.boxes b).work ≡ Say t l answer → (s.boxes b).waiting ≡ Some p → p.train.0 ≢ t.0
+  pub serves : (b : ℕ) (t : TrainId) (l : Letter) → Serves s b t l → IsTakenBy s b t.0 l
+  pub says : (b : ℕ) (t : TrainId) (l : Letter) (a : Answer) → Says s b t l a → IsTakenBy s b t.0 l
+  pub waits : (b : ℕ) (p : Path) → WaitsFor s b p → s.mail p.train.0 ≡ Taken (letter_of_path b p)
+  pub serves_one : (b : ℕ) (t : TrainId) (l : Letter) (p : Path) → Serves s b t l → WaitsFor s b p → p.train.0 ≢ t.0
+  pub says_one : (b : ℕ) (t : TrainId) (l : Letter) (a : Answer) (p : Path) → Says s b t l a → WaitsFor s b p
+      → p.train.0 ≢ t.0
 
 -- who has the lock for a path that is set
 abbrev pub lock_holder : LockWord → Option TrainId
+lock_holder (Free side) = None
+lock_holder (Asked p) = None
+lock_holder (Moving p) = None
+lock_holder (Moved p) = None
 lock_holder (Locked p) = Some p.train
-lock_holder _ = None
 
--- train u has what the letter asks for: the place, or the lock
-abbrev pub HasWhatIsAsked : State → ℕ → Letter → TrainId → Verb → Type 0
+-- train u has what the letter to box b asks for: the segment at the arm, or the lock
+abbrev pub HasWhatIsAsked : State → (b : ℕ) → Letter → (u : TrainId) → Verb → Type 0
 HasWhatIsAsked s b l u verbs.Reserve = s.resv b l.x.0 ≡ Some u
-HasWhatIsAsked s b l u verbs.Lock = lock_holder (s.lock b) ≡ Some u
 HasWhatIsAsked s b l u verbs.Release = ⊥
+HasWhatIsAsked s b l u verbs.Lock = lock_holder (s.lock b) ≡ Some u
 HasWhatIsAsked s b l u verbs.Unlock = ⊥
 
--- 4. Answers. Who is named in a No is another train, and has what was asked for; only a reservation or a lock is refused
+-- 4. Answers. Who is named in a No is another train, and has what was asked for. Only a reservation or a lock is
+-- refused
 pub record AgreesOnAnswers (s : State) : Type 0 where
-  pub other : (b : ℕ) (t u : TrainId) (l : Letter) → (s.boxes b).work ≡ Say t l (answers.No u) → u.0 ≢ t.0
-  pub has : (b : ℕ) (t u : TrainId) (l : Letter) → (s.boxes b).work ≡ Say t l (answers.No u) → HasWhatIsAsked s b l u l.verb
+  pub other : (b : ℕ) (t u : TrainId) (l : Letter) → Says s b t l (answers.No u) → u.0 ≢ t.0
+  pub has : (b : ℕ) (t u : TrainId) (l : Letter) → Says s b t l (answers.No u) → HasWhatIsAsked s b l u l.verb
 
 -- the run word, the sense word and the track of train t
 abbrev pub IsAt : State → ℕ → RunWord → SenseWord → TrackMind → Type 0
@@ -115,15 +140,15 @@ IsAt s t run sense track = (s.run t ≡ run) × (s.sense t ≡ sense) × (s.trac
 -- the stages of step k from the go to the tail report
 abbrev pub IsPassing : State → (t k : ℕ) → Type 0
 IsPassing s t k =
-    IsAt s t (Go k) (Quiet k) (record { step = k; phase = Watch })
-    ⊎ (IsAt s t (Across k) (Quiet k) (record { step = k; phase = HeadDue })
-    ⊎ (IsAt s t (Across k) (Head k) (record { step = k; phase = LeaveDue })
-    ⊎ (IsAt s t (Clear (k + 1)) (Head k) (record { step = k; phase = TailDue })
-    ⊎ IsAt s t (Clear (k + 1)) (Tail k) (record { step = k + 1; phase = Watch }))))
+    IsAt s t (Go k) (Quiet k) (track_at k Watch)
+    ⊎ (IsAt s t (Across k) (Quiet k) (track_at k HeadDue)
+    ⊎ (IsAt s t (Across k) (Head k) (track_at k LeaveDue)
+    ⊎ (IsAt s t (Clear (k + 1)) (Head k) (track_at k TailDue)
+    ⊎ IsAt s t (Clear (k + 1)) (Tail k) (track_at (k + 1) Watch))))
 
 -- the train stands on one segment, that of this place of its route
 abbrev pub IsStanding : State → (t k : ℕ) → Type 0
-IsStanding s t k = IsAt s t (Clear k) (Quiet k) (record { step = k; phase = Watch })
+IsStanding s t k = IsAt s t (Clear k) (Quiet k) (track_at k Watch)
 
 abbrev pub is_passing : TrainMind → Bool
 is_passing m = m.waits && passes m.job
@@ -145,8 +170,8 @@ is_under_way m = m.waits || not (begins m.job)
 abbrev pub open_attempts : TrainMind → ℕ
 open_attempts m = if is_open m.job m.waits then 1 else 0
 
--- 6. Attempts. The attempts left, the steps made, the refusals met and the open attempt are those that the train was given,
--- and the train is within its route
+-- 6. Attempts. The attempts left, the steps made, the refusals met and the open attempt are as many as the train was
+-- given, and the train is within its route
 pub record AgreesOnAttempts (line : Line) (tries : ℕ) (s : State) (t : ℕ) : Type 0 where
   pub total : (s.trains t).left + (s.trains t).step + (s.trains t).refused + open_attempts (s.trains t) ≡ tries
   pub within : (s.trains t).step ≤ line.steps t

@@ -1,10 +1,8 @@
 -- What a train holds and has locked in a state: what is of its job, and what its letter has changed of that already.
-use Rattle.std.specs.Prelude.{ℕ, ◌+◌, ◌==◌, Bool, true, false, not, ◌&&◌, ◌||◌, if◌then◌else◌, Option, Some, None}
+use Rattle.std.specs.Prelude.{ℕ, ◌+◌, ◌==◌, Bool, false, not, ◌&&◌, ◌||◌, if◌then◌else◌, Option, Some, None}
 use Rattle.rl_base.specs.declared.job.Verb.{Verb}
 use Rattle.rl_base.specs.declared.job.Verb.TheVariants as verbs
 use Rattle.rl_words.specs.declared.lock.Path.{Path}
-use Rattle.rl_words.specs.declared.lock.LockWord.{LockWord}
-use Rattle.rl_words.specs.declared.lock.LockWord.TheVariants.{Free, Asked, Moving, Moved, Locked}
 use Rattle.rl_words.specs.declared.mail.Letter.{Letter}
 use Rattle.rl_words.specs.declared.mail.MailWord.{MailWord}
 use Rattle.rl_words.specs.declared.mail.MailWord.TheVariants.{Empty, Ask, Taken, Yes, No}
@@ -16,7 +14,7 @@ use Rattle.rl_box.specs.declared.mind.Work.TheVariants.{Ready, Serve, Say}
 use Rattle.rl_protocol.specs.Line.{Line, at}
 use Rattle.rl_protocol.specs.Jobs.{holds_at, locks_at}
 use Rattle.rl_protocol.specs.State.{State}
-use Rattle.rl_protocol.specs.Steps.{row_of}
+use Rattle.rl_protocol.specs.Minds.{row_of}
 
 -- a box has done what train t asked for where it is about to answer Yes to it, and where it has set its lock and waits
 -- for the points

@@ -1,9 +1,16 @@
 pub mod Line
 pub mod Jobs
 pub mod State
+pub mod Minds
 pub mod Steps
+pub mod StepMoves
+pub mod Nodes
 pub mod Runs
 pub mod Held
 pub mod Agreement
 pub mod Worlds
-pub mod Outlook
+pub mod Refusals
+pub mod AtWork
+pub mod Rest
+pub mod Counts
+pub mod Examples

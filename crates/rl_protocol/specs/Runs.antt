@@ -3,7 +3,8 @@ use Rattle.std.specs.Prelude.{ℕ, List, [], ◌∷◌, ◌++◌, option_to_list
 use Rattle.rl_model.specs.declared.moves.Move.{Move}
 use Rattle.rl_protocol.specs.Line.{Line}
 use Rattle.rl_protocol.specs.State.{State, start}
-use Rattle.rl_protocol.specs.Steps.{Step, Fits, next, move_of}
+use Rattle.rl_protocol.specs.Steps.{Step, Fits, next}
+use Rattle.rl_protocol.specs.StepMoves.{move_of}
 
 -- the state that the steps leave. A list of steps has the newest first
 abbrev pub state_after : Line → ℕ → List Step → State

@@ -29,7 +29,7 @@ pub record State : Type 0 where
   pub run : ℕ → RunWord  -- train
   pub sense : ℕ → SenseWord  -- train
 
--- at the start each train holds its first segment at both its ends, boxes stand as written, and nobody asks for anything
+-- at the start each train holds its first segment at both its ends, boxes stand as written, and nobody asks anything
 abbrev pub start : Line → ℕ → State
 start line tries =
     record {

@@ -1,5 +1,5 @@
 -- The world of a state: what the words say of trains, segments and boxes of a network.
-use Rattle.std.specs.Prelude.{◌≡◌, ℕ, ◌+◌, ◌<◌, ◌==◌, Bool, true, false, ◌&&◌, ◌||◌, if◌then◌else◌, Option, Some, None, unwrap_or}
+use Rattle.std.specs.Prelude.{◌≡◌, ℕ, ◌+◌, ◌<◌, ◌==◌, Bool, false, ◌&&◌, ◌||◌, if◌then◌else◌, Option, Some, None, unwrap_or}
 use Rattle.std.specs.Option.{option_map_or}
 use Rattle.rl_base.specs.declared.kind.Kind.{Kind}
 use Rattle.rl_base.specs.declared.kind.Kind.TheVariants.{Buffer, Joint, Point, Crossing}
@@ -16,9 +16,9 @@ use Rattle.rl_words.specs.declared.lock.LockWord.TheVariants.{Free, Asked, Movin
 use Rattle.rl_words.specs.declared.lock.Path.{Path}
 use Rattle.rl_words.specs.declared.run.RunWord.{RunWord}
 use Rattle.rl_words.specs.declared.run.RunWord.TheVariants.{Clear, Go, Across}
+use Rattle.rl_box.specs.Steps.{other_side}
 use Rattle.rl_protocol.specs.Line.{Line, is_held_by, IsConsistent}
 use Rattle.rl_protocol.specs.State.{State}
-use Rattle.rl_protocol.specs.Steps.{other_side}
 
 -- the number is there, and is n
 abbrev pub is_number : Option ℕ → ℕ → Bool
