@@ -1,3 +1,4 @@
 pub mod Railway
 pub mod Reading
+pub mod Effects
 pub mod Moves

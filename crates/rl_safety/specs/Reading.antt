@@ -9,9 +9,13 @@ use Rattle.rl_base.specs.declared.layout.WordKind.{WordKind}
 use Rattle.rl_base.specs.declared.layout.WordKind.TheVariants as words
 use Rattle.rl_base.specs.Layout.{word_number, node_number}
 use Rattle.rl_words.specs.declared.resv.ResvWord.{ResvWord}
+use Rattle.rl_words.specs.declared.lock.LockWord.{LockWord}
 use Rattle.rl_words.specs.declared.lock.LockWord.TheVariants.{Free}
+use Rattle.rl_words.specs.declared.mail.MailWord.{MailWord}
 use Rattle.rl_words.specs.declared.mail.MailWord.TheVariants.{Empty}
+use Rattle.rl_words.specs.declared.run.RunWord.{RunWord}
 use Rattle.rl_words.specs.declared.run.RunWord.TheVariants.{Clear}
+use Rattle.rl_words.specs.declared.sense.SenseWord.{SenseWord}
 use Rattle.rl_words.specs.declared.sense.SenseWord.TheVariants.{Quiet}
 use Rattle.rl_words.specs.Readings.{read_resv, read_lock, read_mail, read_run, read_sense}
 use Rattle.rl_words.specs.Resv.{arm_in}
@@ -75,6 +79,22 @@ abbrev pub holder_of : Option ResvWord → ℕ → Option TrainId
 holder_of None x = None
 holder_of (Some w) x = if nat_lt x 4 then arm_in w x else None
 
+-- what each word says; a payload that is no packing stands for the value at the start
+abbrev pub holder_in : Tables → CoreState → ℕ → ℕ → Option TrainId
+holder_in tables c b x = holder_of (read_resv (payload_of tables c (words.Resv (box b)))) x
+
+abbrev pub lock_in : Tables → CoreState → ℕ → LockWord
+lock_in tables c b = unwrap_or (read_lock (payload_of tables c (words.Lock (box b)))) (Free Left)
+
+abbrev pub mail_in : Tables → CoreState → ℕ → MailWord
+mail_in tables c t = unwrap_or (read_mail (payload_of tables c (words.Mail (train t)))) Empty
+
+abbrev pub run_in : Tables → CoreState → ℕ → RunWord
+run_in tables c t = unwrap_or (read_run (payload_of tables c (words.Run (train t)))) (Clear 0)
+
+abbrev pub sense_in : Tables → CoreState → ℕ → SenseWord
+sense_in tables c t = unwrap_or (read_sense (payload_of tables c (words.Sense (train t)))) (Quiet 0)
+
 -- the state that the words and the minds of the core are
 abbrev pub read : Tables → ℕ → CoreState → State
 read tables tries c =
@@ -82,9 +102,9 @@ read tables tries c =
       trains = train_of tables tries c;
       tracks = track_of tables c;
       boxes = box_of tables c;
-      resv = λ b x. holder_of (read_resv (payload_of tables c (words.Resv (box b)))) x;
-      lock = λ b. unwrap_or (read_lock (payload_of tables c (words.Lock (box b)))) (Free Left);
-      mail = λ t. unwrap_or (read_mail (payload_of tables c (words.Mail (train t)))) Empty;
-      run = λ t. unwrap_or (read_run (payload_of tables c (words.Run (train t)))) (Clear 0);
-      sense = λ t. unwrap_or (read_sense (payload_of tables c (words.Sense (train t)))) (Quiet 0);
+      resv = holder_in tables c;
+      lock = lock_in tables c;
+      mail = mail_in tables c;
+      run = run_in tables c;
+      sense = sense_in tables c;
     }
