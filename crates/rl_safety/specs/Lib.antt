@@ -2,3 +2,4 @@ pub mod Railway
 pub mod Reading
 pub mod Effects
 pub mod Moves
+pub mod Labels

@@ -1,5 +1,5 @@
 -- The state of the protocol, read from the words and the minds of a core.
-use Rattle.std.specs.Prelude.{ℕ, ◌==◌, nat_lt, Bool, slice_get, slice_index_or, Option, Some, None, unwrap_or, option_and_then, if◌then◌else◌}
+use Rattle.std.specs.Prelude.{ℕ, ◌==◌, nat_lt, Bool, true, slice_get, slice_index_or, Option, Some, None, unwrap_or, option_and_then, if◌then◌else◌}
 use Rattle.std.specs.Option.{option_map_or}
 use Rattle.rl_base.specs.declared.ids.TrainId.{TrainId}
 use Rattle.rl_base.specs.declared.kind.Side.TheVariants.{Left}
@@ -47,9 +47,9 @@ abbrev pub box_mind : Mind → BoxMind
 box_mind (Box m) = m
 box_mind _ = start_box
 
--- the word is one of a box or a train of the layout
+-- the word is the still word, or one of a box or a train of the layout
 abbrev pub has_word : Layout → WordKind → Bool
-has_word lay words.Still = nat_lt 0 1
+has_word lay words.Still = true
 has_word lay (words.Resv b) = nat_lt b.0 lay.boxes
 has_word lay (words.Lock b) = nat_lt b.0 lay.boxes
 has_word lay (words.Mail t) = nat_lt t.0 lay.trains
@@ -79,7 +79,8 @@ abbrev pub holder_of : Option ResvWord → ℕ → Option TrainId
 holder_of None x = None
 holder_of (Some w) x = if nat_lt x 4 then arm_in w x else None
 
--- what each word says; a payload that is no packing stands for the value at the start
+-- what each word says. A payload that is no packing stands for nobody, free at left, empty, clear at 0 and quiet at 0;
+-- no run of events leaves one
 abbrev pub holder_in : Tables → CoreState → ℕ → ℕ → Option TrainId
 holder_in tables c b x = holder_of (read_resv (payload_of tables c (words.Resv (box b)))) x
 
