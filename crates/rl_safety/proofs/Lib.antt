@@ -1,0 +1,5 @@
+pub mod Payloads
+pub mod Minds
+pub mod Words
+pub mod TrainLabels
+pub mod BoxLabels

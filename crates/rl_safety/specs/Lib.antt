@@ -1,0 +1,5 @@
+pub mod Railway
+pub mod Reading
+pub mod Effects
+pub mod Moves
+pub mod Labels
