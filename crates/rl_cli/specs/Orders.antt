@@ -1,4 +1,4 @@
--- The same as tests of the words, and the order as a function of them.
+-- The order of a command line as a function of its words, by tests of them, which the code's functions make.
 use Rattle.std.specs.Prelude.{◌≡◌, Bool, true, false, not, ◌&&◌, List, [], ◌∷◌, length, take, drop, nat_le, Option, Some, None, IsSome, Result, Ok, Err, bytes_eq, codes, if◌then◌else◌}
 use Rattle.std.specs.List.{list_all}
 use Rattle.rl_cli.specs.Words.{Text}
