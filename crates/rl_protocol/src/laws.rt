@@ -8,6 +8,11 @@ ghost use Rattle.rl_model.specs.World as world;
 ghost use Rattle.rl_model.specs.Moves.{guards, AllHold, after};
 ghost use Rattle.rl_model.specs.Safety.{IsSafeRun, world_after};
 ghost use Rattle.rl_model.specs.Reports.{refused_in, Rests};
+ghost use Rattle.rl_model.specs.Network.{IsNetwork};
+ghost use Rattle.rl_tables.specs.declared.table.Tables.{Tables};
+ghost use Rattle.rl_tables.specs.Kept.{IsLine};
+ghost use Rattle.rl_tables.specs.Tables.{AreTablesOf};
+ghost use Rattle.rl_protocol.specs.TableLine.{line_of};
 ghost use Rattle.rl_protocol.specs.Line.{Line, IsConsistent};
 ghost use Rattle.rl_protocol.specs.State.{State, start};
 ghost use Rattle.rl_protocol.specs.Minds.{box, at_rest};
@@ -20,6 +25,14 @@ ghost use Rattle.rl_protocol.specs.Counts.{HasTrains, events_of, attempts_posted
 ghost use Rattle.rl_protocol.specs.Refusals.{refusals_said};
 ghost use Rattle.rl_protocol.specs.AtWork.{HasStep, word_at_work};
 ghost use Rattle.rl_protocol.specs.Rest.{AllRest, IsAtRest};
+
+/// The tables of a network say a consistent line of it, in which only the trains of the tables have steps to make.
+pub fn lines_of_tables()
+    ensures consistent { (tables : Tables) → IsLine tables → IsConsistent (line_of tables) }
+    ensures trains { (tables : Tables) → HasTrains (line_of tables) (length tables.trains) }
+    ensures railway { (net : NetworkPlan) (tables : Tables)
+        → IsNetwork net → IsLine tables → AreTablesOf net tables → IsRailway net (line_of tables) }
+{}
 
 /// Minds and words agree in every state that a run of steps leaves, whatever the nodes and their order.
 pub fn agreement()
