@@ -26,3 +26,4 @@ pub mod Counted
 pub mod Totals
 pub mod ExampleRun
 pub mod TableLines
+pub mod Named
