@@ -5,11 +5,11 @@ use Rattle.rl_model.specs.Drafts.{network_of}
 use Rattle.rl_model.specs.Examples.{one_train}
 use Rattle.rl_model.specs.Network.{kind_of, start_side, segment_at, route_segment, steps_of, IsStep, IsNetwork}
 use Rattle.rl_model.proofs.Networks.{IsNetwork-accepted}
-use Rattle.rl_protocol.specs.Line.{IsStepOf, IsConsistent}
+use Rattle.rl_protocol.specs.Line.{IsStepOf, IsConsistent, same_number}
 use Rattle.rl_protocol.specs.Jobs.{letter_at, job_after_yes, passes, begins, finishes}
 use Rattle.rl_protocol.specs.Minds.{at_rest}
 use Rattle.rl_protocol.specs.Runs.{state_after, IsRun}
-use Rattle.rl_protocol.specs.Worlds.{same_number, IsRailway}
+use Rattle.rl_protocol.specs.Worlds.{IsRailway}
 use Rattle.rl_protocol.specs.Examples.{one_train_line, four_steps, whole_step}
 
 pub begun : IsRun one_train_line 100 four_steps

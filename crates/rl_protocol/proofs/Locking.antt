@@ -21,12 +21,12 @@ use Rattle.rl_model.specs.Moves.{IsNotAcross}
 use Rattle.rl_words.specs.declared.lock.LockWord.{LockWord}
 use Rattle.rl_words.specs.declared.lock.LockWord.TheVariants.{Free, Asked, Moving, Moved, Locked}
 use Rattle.rl_words.specs.declared.lock.Path.{Path}
-use Rattle.rl_protocol.specs.Line.{Line, is_held_by}
+use Rattle.rl_protocol.specs.Line.{Line, is_held_by, is_number}
 use Rattle.rl_protocol.specs.State.{State, put}
 use Rattle.rl_box.specs.Steps.{other_side}
 use Rattle.rl_protocol.specs.Minds.{box}
 use Rattle.rl_protocol.specs.StepMoves.{seg_at}
-use Rattle.rl_protocol.specs.Worlds.{is_number, is_passage, locks, standing, moving, points_in, world_at}
+use Rattle.rl_protocol.specs.Worlds.{is_passage, locks, standing, moving, points_in, world_at}
 use Rattle.rl_protocol.proofs.Places.{ArePlaced}
 use Rattle.rl_protocol.proofs.Sides.{join_apart, has_side, one_side, stands_still}
 use Rattle.rl_protocol.proofs.Reserving.{IsMove, held_at}

@@ -29,7 +29,7 @@ use Rattle.rl_words.specs.declared.mail.Letter.{Letter}
 use Rattle.rl_words.specs.declared.mail.MailWord.TheVariants.{Empty}
 use Rattle.rl_words.specs.declared.run.RunWord.TheVariants.{Clear, Go, Across}
 use Rattle.rl_words.specs.Mail.{IsRefusable}
-use Rattle.rl_protocol.specs.Line.{Line, at, is_held_by, IsConsistent}
+use Rattle.rl_protocol.specs.Line.{Line, at, is_held_by, IsConsistent, same_number}
 use Rattle.rl_protocol.specs.Jobs.{passes}
 use Rattle.rl_protocol.specs.State.{State}
 use Rattle.rl_box.specs.Steps.{path_of, other_side}
@@ -38,7 +38,7 @@ use Rattle.rl_protocol.specs.Steps.{Step, post, hear_yes, hear_no, go, quiet, ta
 use Rattle.rl_protocol.specs.StepMoves.{move_of, refusal_of, seg_at}
 use Rattle.rl_protocol.specs.Held.{has_done_for, done_in, held_with, locked_with, holds, has_lock, job_holds, job_locks}
 use Rattle.rl_protocol.specs.Agreement.{Agrees, AgreesOnPassage, is_passing, place_of, is_locked_by, path_in_setting, lock_holder, HasWhatIsAsked}
-use Rattle.rl_protocol.specs.Worlds.{same_number, IsLineOf, stands_on, is_across, locks, standing, points_in, world_at}
+use Rattle.rl_protocol.specs.Worlds.{IsLineOf, stands_on, is_across, locks, standing, points_in, world_at}
 use Rattle.rl_protocol.proofs.Known.{Known, HasTaken}
 use Rattle.rl_protocol.proofs.Places.{ArePlaced}
 use Rattle.rl_protocol.proofs.Letters.{row_arms, letter_arm, letter_off, here_at, ahead_at, passing_holds, passing_locks}

@@ -18,11 +18,11 @@ use Rattle.rl_model.specs.Moves.{holds_ends}
 use Rattle.rl_words.specs.declared.lock.LockWord.{LockWord}
 use Rattle.rl_words.specs.declared.run.RunWord.{RunWord}
 use Rattle.rl_words.specs.declared.run.RunWord.TheVariants.{Clear, Go, Across}
-use Rattle.rl_protocol.specs.Line.{Line}
+use Rattle.rl_protocol.specs.Line.{Line, is_number}
 use Rattle.rl_protocol.specs.State.{State, put}
 use Rattle.rl_protocol.specs.Minds.{train}
 use Rattle.rl_protocol.specs.Agreement.{is_locked_by}
-use Rattle.rl_protocol.specs.Worlds.{is_number, stands_on, is_across, steps_made, locks, standing, world_at}
+use Rattle.rl_protocol.specs.Worlds.{stands_on, is_across, steps_made, locks, standing, world_at}
 use Rattle.rl_protocol.proofs.Reserving.{IsMove}
 use Rattle.rl_protocol.proofs.Locking.{connects_at}
 

@@ -15,13 +15,13 @@ use Rattle.rl_words.specs.declared.lock.LockWord.TheVariants.{Free, Asked, Movin
 use Rattle.rl_words.specs.declared.lock.Path.{Path}
 use Rattle.rl_words.specs.declared.mail.MailWord.TheVariants.{Empty}
 use Rattle.rl_words.specs.declared.run.RunWord.TheVariants.{Clear}
-use Rattle.rl_protocol.specs.Line.{Line, is_held_by}
+use Rattle.rl_protocol.specs.Line.{Line, is_held_by, is_number, same_number}
 use Rattle.rl_protocol.specs.Jobs.{begins, passes}
 use Rattle.rl_protocol.specs.State.{State}
 use Rattle.rl_protocol.specs.Minds.{at_rest, row_of}
 use Rattle.rl_protocol.specs.Held.{has_done_for, done_in, held_with, locked_with, job_holds, job_locks}
 use Rattle.rl_protocol.specs.Agreement.{Agrees, is_locked_by}
-use Rattle.rl_protocol.specs.Worlds.{is_number, same_number, IsRailway, stands_on, is_across, locks, world_at}
+use Rattle.rl_protocol.specs.Worlds.{IsRailway, stands_on, is_across, locks, world_at}
 use Rattle.rl_protocol.specs.Rest.{AllRest, IsAtRest}
 use Rattle.rl_protocol.proofs.Jobs.{beginning_holds, beginning_unlocked, beginning_place}
 use Rattle.rl_protocol.proofs.Places.{placed}

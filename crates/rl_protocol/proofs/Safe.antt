@@ -16,14 +16,14 @@ use Rattle.rl_model.specs.World.{World, start, starts_on, points_at}
 use Rattle.rl_model.specs.Moves.{guards, AllHold, after}
 use Rattle.rl_model.specs.Safety.{GuardedFrom, Guarded, IsSafeRun, world_after}
 use Rattle.rl_model.proofs.Kept.{safe_run}
-use Rattle.rl_protocol.specs.Line.{Line, is_held_by, IsConsistent}
+use Rattle.rl_protocol.specs.Line.{Line, is_held_by, IsConsistent, same_number}
 use Rattle.rl_protocol.specs.State.{State}
 use Rattle.rl_protocol.specs.State.{start as start_state}
 use Rattle.rl_protocol.specs.Steps.{Step, Fits, next}
 use Rattle.rl_protocol.specs.StepMoves.{move_of}
 use Rattle.rl_protocol.specs.Runs.{state_after, IsRun, moves_of}
 use Rattle.rl_protocol.specs.Agreement.{Agrees}
-use Rattle.rl_protocol.specs.Worlds.{same_number, IsLineOf, IsRailway, standing, world_at}
+use Rattle.rl_protocol.specs.Worlds.{IsLineOf, IsRailway, standing, world_at}
 use Rattle.rl_protocol.proofs.Agreed.{agrees, known_of}
 use Rattle.rl_protocol.proofs.Places.{ArePlaced, placed}
 use Rattle.rl_protocol.proofs.Reserving.{IsMove}

@@ -13,4 +13,5 @@ pub mod Refusals
 pub mod AtWork
 pub mod Rest
 pub mod Counts
+pub mod TableLine
 pub mod Examples

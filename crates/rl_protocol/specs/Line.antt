@@ -1,5 +1,6 @@
 -- The line as the protocol sees it: what each box and each train knows, and that these parts fit each other.
 use Rattle.std.specs.Prelude.{◌≡◌, ◌≢◌, ℕ, ◌+◌, ◌<◌, ◌==◌, Bool, true, false, ◌&&◌, ◌||◌, Option, Some, None}
+use Rattle.std.specs.Option.{option_map_or}
 use Rattle.rl_base.specs.declared.ids.SegId.{SegId}
 use Rattle.rl_base.specs.declared.ids.BoxId.{BoxId}
 use Rattle.rl_base.specs.declared.ids.TrainId.{TrainId}
@@ -19,6 +20,15 @@ pub record Line : Type 0 where
   pub steps : ℕ → ℕ  -- how many a train's route has
   pub row : ℕ → ℕ → StepRow  -- train, step
   pub ends : ℕ → ℕ → ℕ → ℕ → Bool  -- train, k, box, arm: segment k of the train's route has an end at the place
+
+-- the number is there, and is n
+abbrev pub is_number : Option ℕ → ℕ → Bool
+is_number o n = option_map_or (λ m. m == n) o false
+
+-- both numbers are there, and are the same
+abbrev pub same_number : Option ℕ → Option ℕ → Bool
+same_number None p = false
+same_number (Some n) p = is_number p n
 
 -- box b and arm x are this place
 abbrev pub at : BoxId → Arm → ℕ → ℕ → Bool

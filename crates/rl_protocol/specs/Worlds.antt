@@ -17,17 +17,8 @@ use Rattle.rl_words.specs.declared.lock.Path.{Path}
 use Rattle.rl_words.specs.declared.run.RunWord.{RunWord}
 use Rattle.rl_words.specs.declared.run.RunWord.TheVariants.{Clear, Go, Across}
 use Rattle.rl_box.specs.Steps.{other_side}
-use Rattle.rl_protocol.specs.Line.{Line, is_held_by, IsConsistent}
+use Rattle.rl_protocol.specs.Line.{Line, is_number, same_number, is_held_by, IsConsistent}
 use Rattle.rl_protocol.specs.State.{State}
-
--- the number is there, and is n
-abbrev pub is_number : Option ℕ → ℕ → Bool
-is_number o n = option_map_or (λ m. m == n) o false
-
--- both numbers are there, and are the same
-abbrev pub same_number : Option ℕ → Option ℕ → Bool
-same_number None p = false
-same_number (Some n) p = is_number p n
 
 -- the line is that of the network: the kinds and sides of its boxes, the segments at their arms, and the routes
 pub record IsLineOf (net : NetworkPlan) (line : Line) : Type 0 where

@@ -1,5 +1,5 @@
 -- Letters that are compared field by field are one.
-use Rattle.std.proofs.Common.{◌≡◌, ℕ, true, refl, ap, ◌∙◌, arith}
+use Rattle.std.proofs.Common.{◌≡◌, ℕ, true, refl, ap, arith}
 use Rattle.std.proofs.lemmas.Bool.{and_parts, and_from, eqb-true, eq-eqb}
 use Rattle.rl_base.specs.declared.ids.Arm.{Arm}
 use Rattle.rl_base.specs.declared.ids.BoxId.{BoxId}

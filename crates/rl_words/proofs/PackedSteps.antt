@@ -3,7 +3,7 @@ use Rattle.std.proofs.Common.{◌≡◌, ℕ, Bool, true, false, Option, Some, N
 use Rattle.std.proofs.lemmas.Option.{some_pair_parts}
 use Rattle.std.specs.Prelude.{option_map, option_and_then}
 use Rattle.rl_base.specs.declared.layout.WordKind.{WordKind}
-use Rattle.rl_words.specs.Word.{Word, packed_word, read_word, packed_step, PackedStep}
+use Rattle.rl_words.specs.Word.{Word, packed_step, PackedStep}
 
 -- a guarded value is there only where the test says so
 pub guarded : {A : Type 0} (test : Bool) (o : Option A) (y : A) → (if test then o else None) ≡ Some y → (test ≡ true) × (o ≡ Some y)

@@ -1,5 +1,5 @@
 -- What is read of a payload: the value of which it is the packing.
-use Rattle.std.proofs.Common.{◌≡◌, ◌≢◌, ℕ, zero, suc, ◌+◌, ◌*◌, ◌^◌, ◌<◌, ◌≤◌, ◌==◌, lit<, Bool, true, false, not, ◌&&◌, Option, Some, None, IfSome, IfNone, refl, sym, ap, subst, ◌∙◌, arith}
+use Rattle.std.proofs.Common.{◌≡◌, ◌≢◌, ℕ, zero, suc, ◌+◌, ◌*◌, ◌^◌, ◌<◌, ◌==◌, lit<, Bool, true, ◌&&◌, Option, Some, None, IfSome, IfNone, refl, sym, ap, ◌∙◌, arith}
 use Rattle.std.proofs.lemmas.Bool.{and_parts, and_from, eqb-true, eq-eqb, ne_eqb, eqb-false, ltb-true, lt-ltb, leb-true, le-leb, not-true, not_from_false, cond-true}
 use Rattle.std.proofs.lemmas.Option.{cond_some}
 use Rattle.rl_base.specs.declared.ids.TrainId.{TrainId}
@@ -19,9 +19,9 @@ use Rattle.rl_words.specs.declared.run.RunWord.TheVariants.{Clear, Go, Across}
 use Rattle.rl_words.specs.declared.sense.SenseWord.{SenseWord}
 use Rattle.rl_words.specs.declared.sense.SenseWord.TheVariants.{Quiet, Head, Tail}
 use Rattle.rl_words.specs.Fields.{field}
-use Rattle.rl_words.specs.Lock.{FitsPath, FitsLock, side_code, packed_path, packed_lock}
+use Rattle.rl_words.specs.Lock.{FitsPath, FitsLock, packed_path, packed_lock}
 use Rattle.rl_words.specs.Mail.{FitsArms, FitsLetter, IsRefusable, FitsMail, verb_code, packed_letter, packed_mail}
-use Rattle.rl_words.specs.Readings.{only_if, train_id, arm_id, holder_at, resv_at, fits_arm, fits_resv, read_resv, path_at, side_at, lock_tagged, lock_at, fits_path, fits_lock, read_lock, verb_at, letter_at, mail_tagged, mail_at, fits_arms, fits_letter, is_refusable, fits_mail, read_mail, run_tagged, run_at, fits_run, read_run, sense_tagged, sense_at, fits_sense, read_sense}
+use Rattle.rl_words.specs.Readings.{only_if, train_id, arm_id, holder_at, resv_at, fits_arm, fits_resv, read_resv, path_at, lock_tagged, lock_at, fits_path, fits_lock, read_lock, verb_at, letter_at, mail_tagged, mail_at, fits_arms, fits_letter, is_refusable, fits_mail, read_mail, run_tagged, run_at, fits_run, read_run, sense_tagged, sense_at, fits_sense, read_sense}
 use Rattle.rl_words.specs.Resv.{FitsArm, FitsResv, arm_code, packed_resv}
 use Rattle.rl_words.specs.Run.{FitsRun, packed_run}
 use Rattle.rl_words.specs.Sense.{FitsSense, packed_sense}

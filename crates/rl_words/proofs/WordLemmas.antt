@@ -1,27 +1,17 @@
 -- Any word: its payload is read, small, and owned.
-use Rattle.std.proofs.Common.{◌≡◌, ℕ, ◌+◌, ◌*◌, ◌^◌, ◌<◌, Option, Some, None, refl, ap, subst, arith}
+use Rattle.std.proofs.Common.{◌≡◌, ℕ, ◌^◌, ◌<◌, Option, Some, None, refl, ap, subst, arith}
 use Rattle.std.specs.Prelude.{option_map}
 use Rattle.rl_base.specs.declared.kind.Side.TheVariants.{Left, Right}
 use Rattle.rl_base.specs.declared.layout.Layout.{Layout}
 use Rattle.rl_base.specs.declared.layout.WordKind.{WordKind}
 use Rattle.rl_base.specs.declared.layout.WordKind.TheVariants as kinds
 use Rattle.rl_base.specs.Layout.{HasWord, HasNode, word_number, node_number}
-use Rattle.rl_words.specs.declared.lock.LockWord.{LockWord}
 use Rattle.rl_words.specs.declared.lock.LockWord.TheVariants.{Free, Asked, Moving, Moved, Locked}
-use Rattle.rl_words.specs.declared.mail.MailWord.{MailWord}
 use Rattle.rl_words.specs.declared.mail.MailWord.TheVariants.{Empty, Ask, Taken, Yes, No}
-use Rattle.rl_words.specs.declared.resv.ResvWord.{ResvWord}
-use Rattle.rl_words.specs.declared.run.RunWord.{RunWord}
 use Rattle.rl_words.specs.declared.run.RunWord.TheVariants.{Clear, Go, Across}
-use Rattle.rl_words.specs.declared.sense.SenseWord.{SenseWord}
 use Rattle.rl_words.specs.declared.sense.SenseWord.TheVariants.{Quiet, Head, Tail}
-use Rattle.rl_words.specs.Lock.{FitsLock, packed_lock}
-use Rattle.rl_words.specs.Mail.{FitsMail, packed_mail}
 use Rattle.rl_words.specs.Owner.{MayChange, Owns}
 use Rattle.rl_words.specs.Readings.{read_resv, read_lock, read_mail, read_run, read_sense}
-use Rattle.rl_words.specs.Resv.{FitsResv, packed_resv}
-use Rattle.rl_words.specs.Run.{FitsRun, packed_run}
-use Rattle.rl_words.specs.Sense.{FitsSense, packed_sense}
 use Rattle.rl_words.specs.Word.{Word, kind_of, FitsWord, packed_word, read_word, word_owner, IsReading}
 use Rattle.rl_words.specs.Word.Word.{Resv, Lock, Mail, Run, Sense}
 use Rattle.rl_words.proofs.MailLemmas.{verb_code-lt}

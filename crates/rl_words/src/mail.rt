@@ -113,10 +113,7 @@ fn mail_of(payload: u32) -> Option<MailWord>
         1 if above == 0 => Some(MailWord::Ask(letter)),
         2 if above == 0 => Some(MailWord::Taken(letter)),
         3 if above == 0 => Some(MailWord::Yes(letter)),
-        4 if above < 32 && is_refusable(letter.verb) => Some(MailWord::No(
-            letter,
-            TrainId(above),
-        )),
+        4 if above < 32 && is_refusable(letter.verb) => Some(MailWord::No(letter, TrainId(above))),
         _ => None,
     }
 }
