@@ -1,5 +1,6 @@
 pub mod Payloads
 pub mod Minds
 pub mod Words
+pub mod Effects
 pub mod TrainLabels
 pub mod BoxLabels
