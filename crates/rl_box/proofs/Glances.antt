@@ -1,13 +1,12 @@
 -- At a payload of which a glance says no, a box has no step.
-use Rattle.std.proofs.Common.{◌≡◌, ℕ, ◌+◌, ◌*◌, ◌%◌, ◌<◌, ◌==◌, Bool, true, false, ◌&&◌, ◌||◌, Option, Some, None, refl, sym, ap, subst, ◌∙◌, arith}
-use Rattle.std.specs.Prelude.{is_some}
+use Rattle.std.proofs.Common.{◌≡◌, ℕ, ◌+◌, ◌*◌, ◌%◌, true, false, Option, Some, None, refl, sym, ap, ◌∙◌, arith}
 use Rattle.std.proofs.lemmas.Bool.{eq-eqb, or_left, or_right, and_from, true≢false}
 use Rattle.rl_base.specs.declared.ids.BoxId.{BoxId}
 use Rattle.rl_base.specs.declared.layout.WordKind.{WordKind}
 use Rattle.rl_words.specs.declared.lock.LockWord.TheVariants.{Moved}
 use Rattle.rl_words.specs.declared.mail.MailWord.TheVariants as mails
 use Rattle.rl_words.specs.Lock.{packed_lock}
-use Rattle.rl_words.specs.Mail.{packed_mail, verb_code}
+use Rattle.rl_words.specs.Mail.{packed_mail}
 use Rattle.rl_words.specs.Word.{Word, FitsWord, packed_word}
 use Rattle.rl_tables.specs.declared.table.BoxTable.{BoxTable}
 use Rattle.rl_box.specs.declared.mind.BoxMind.{BoxMind}

@@ -1,5 +1,5 @@
 -- A step of a box leaves its mind well formed, and a word that can be packed.
-use Rattle.std.proofs.Common.{◌≡◌, ◌≢◌, ℕ, ◌<◌, ◌≤◌, ◌==◌, Bool, true, false, ◌&&◌, Option, Some, None, cond, refl, sym, subst, arith}
+use Rattle.std.proofs.Common.{◌≡◌, ◌≢◌, ℕ, ◌<◌, ◌≤◌, ◌==◌, Bool, true, false, Option, Some, None, cond, refl, sym, subst, arith}
 use Rattle.std.proofs.lemmas.Bool.{and_parts, ltb-true}
 use Rattle.rl_base.specs.declared.ids.TrainId.{TrainId}
 use Rattle.rl_base.specs.declared.job.Verb.{Verb}
@@ -9,17 +9,16 @@ use Rattle.rl_base.specs.declared.kind.Kind.TheVariants.{Buffer, Joint, Point, C
 use Rattle.rl_base.specs.declared.layout.Layout.{Layout}
 use Rattle.rl_base.specs.Kind.{arms_of}
 use Rattle.rl_base.specs.Layout.{HasWord}
-use Rattle.rl_words.specs.declared.lock.Path.{Path}
 use Rattle.rl_words.specs.declared.mail.Letter.{Letter}
 use Rattle.rl_words.specs.declared.resv.ResvWord.{ResvWord}
 use Rattle.rl_words.specs.Lock.{FitsPath}
-use Rattle.rl_words.specs.Mail.{FitsArms, FitsLetter, IsRefusable, about_passage}
+use Rattle.rl_words.specs.Mail.{FitsArms, IsRefusable, about_passage}
 use Rattle.rl_words.specs.Resv.{FitsArm, FitsResv, arm_in, with_arm}
 use Rattle.rl_words.specs.Word.{Word, kind_of, FitsWord}
 use Rattle.rl_tables.specs.declared.table.BoxTable.{BoxTable}
 use Rattle.rl_box.specs.declared.mind.BoxMind.{BoxMind}
-use Rattle.rl_box.specs.Mind.{IsLetterTo, IsPathOf, IsBoxMind}
-use Rattle.rl_box.specs.Steps.{has_arms, path_of, BoxStep}
+use Rattle.rl_box.specs.Mind.{IsLetterTo, IsBoxMind}
+use Rattle.rl_box.specs.Steps.{path_of, BoxStep}
 use Rattle.rl_box.specs.Steps.BoxStep.{take, reserve, refuse, release, lock, ask, moved, unlock, say_yes, say_refused, say_barred, busy}
 
 -- a word with an arm changed still fits, as a law of the words says

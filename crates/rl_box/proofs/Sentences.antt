@@ -1,6 +1,5 @@
 -- The function gives exactly the steps of the sentences.
-use Rattle.std.proofs.Common.{◌≡◌, ◌≢◌, ℕ, ◌==◌, Bool, true, false, not, ◌&&◌, ◌||◌, Option, Some, None, if◌then◌else◌, refl, sym, ap, subst, ◌∙◌, arith}
-use Rattle.std.specs.Prelude.{option_map}
+use Rattle.std.proofs.Common.{◌≡◌, ◌≢◌, ℕ, ◌==◌, Bool, true, false, Option, Some, None, if◌then◌else◌, refl, sym, ap, subst, ◌∙◌}
 use Rattle.std.proofs.lemmas.Bool.{and_parts, and_from, eqb-true, eqb-false, eq-eqb, ne_eqb}
 use Rattle.std.proofs.lemmas.Option.{same_Some}
 use Rattle.rl_base.specs.declared.ids.Arm.{Arm}
@@ -8,8 +7,6 @@ use Rattle.rl_base.specs.declared.ids.BoxId.{BoxId}
 use Rattle.rl_base.specs.declared.ids.TrainId.{TrainId}
 use Rattle.rl_base.specs.declared.job.Verb.{Verb}
 use Rattle.rl_base.specs.declared.job.Verb.TheVariants as verbs
-use Rattle.rl_base.specs.declared.kind.Side.{Side}
-use Rattle.rl_base.specs.Kind.{joining_side}
 use Rattle.rl_words.specs.declared.lock.LockWord.{LockWord}
 use Rattle.rl_words.specs.declared.lock.LockWord.TheVariants.{Free, Asked, Moving, Moved, Locked}
 use Rattle.rl_words.specs.declared.lock.Path.{Path}
@@ -29,7 +26,7 @@ use Rattle.rl_box.specs.declared.mind.BoxMind.{BoxMind}
 use Rattle.rl_box.specs.declared.mind.Work.{Work}
 use Rattle.rl_box.specs.declared.mind.Work.TheVariants.{Ready, Serve, Say}
 use Rattle.rl_box.specs.Mind.{box_at}
-use Rattle.rl_box.specs.Steps.{has_arms, path_of, other_side, connects, BoxStep, same_train, same_path, answered, mail_turn, resv_turn, on_resv, lock_turn, points_turn, on_lock, box_on}
+use Rattle.rl_box.specs.Steps.{path_of, other_side, connects, BoxStep, same_train, same_path, answered, mail_turn, resv_turn, on_resv, lock_turn, points_turn, on_lock, box_on}
 use Rattle.rl_box.specs.Steps.BoxStep.{take, reserve, refuse, release, lock, ask, moved, unlock, say_yes, say_refused, say_barred, busy}
 use Rattle.rl_words.proofs.PackedSteps.{guarded, unless, mapped}
 

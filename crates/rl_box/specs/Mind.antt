@@ -1,6 +1,5 @@
 -- The mind of a box: at the start, and what is true of it at all times.
 use Rattle.std.specs.Prelude.{◌≡◌, ◌≢◌, ◌<◌, Option, Some, None}
-use Rattle.rl_base.specs.declared.ids.TrainId.{TrainId}
 use Rattle.rl_base.specs.declared.layout.Layout.{Layout}
 use Rattle.rl_base.specs.Kind.{arms_of}
 use Rattle.rl_words.specs.declared.lock.Path.{Path}

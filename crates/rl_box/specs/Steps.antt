@@ -1,5 +1,5 @@
 -- The steps of a box: first as sentences, one for each line of the table of steps, then as a function.
-use Rattle.std.specs.Prelude.{◌≡◌, ◌≢◌, ℕ, ◌==◌, nat_lt, Bool, true, false, ◌&&◌, ◌||◌, Option, Some, None, option_map, if◌then◌else◌}
+use Rattle.std.specs.Prelude.{◌≡◌, ◌≢◌, ℕ, ◌==◌, nat_lt, Bool, true, false, ◌&&◌, Option, Some, None, option_map, if◌then◌else◌}
 use Rattle.rl_base.specs.declared.ids.TrainId.{TrainId}
 use Rattle.rl_base.specs.declared.job.Verb.{Verb}
 use Rattle.rl_base.specs.declared.job.Verb.TheVariants as verbs
@@ -49,29 +49,72 @@ connects b l side = arms_join b.kind l.x.0 l.y.0 side
 -- after the step, and the mind after it.
 pub data BoxStep (b : BoxTable) : BoxMind → Word → Word → BoxMind → Type 0 where
   -- a train asks it something: it takes the letter
-  take : (t : TrainId) (l : Letter) (waiting : Option Path) → l.to ≡ b.number → has_arms b l ≡ true → BoxStep b (box_at Ready waiting) (Mail t (mails.Ask l)) (Mail t (mails.Taken l)) (box_at (Serve t l) waiting)
+  take :
+      (t : TrainId) (l : Letter) (waiting : Option Path)
+      → l.to ≡ b.number → has_arms b l ≡ true
+      → BoxStep b (box_at Ready waiting) (Mail t (mails.Ask l)) (Mail t (mails.Taken l)) (box_at (Serve t l) waiting)
   -- it reserves the arm, which is free
-  reserve : (t : TrainId) (l : Letter) (waiting : Option Path) (w : ResvWord) → l.verb ≡ verbs.Reserve → arm_in w l.x.0 ≡ None → BoxStep b (box_at (Serve t l) waiting) (Resv b.number w) (Resv b.number (with_arm w l.x.0 (Some t))) (box_at (Say t l Yes) waiting)
+  reserve :
+      (t : TrainId) (l : Letter) (waiting : Option Path) (w : ResvWord)
+      → l.verb ≡ verbs.Reserve → arm_in w l.x.0 ≡ None
+      → BoxStep b (box_at (Serve t l) waiting) (Resv b.number w)
+      (Resv b.number (with_arm w l.x.0 (Some t))) (box_at (Say t l Yes) waiting)
   -- it refuses the arm, which another train holds
-  refuse : (t u : TrainId) (l : Letter) (waiting : Option Path) (w : ResvWord) → l.verb ≡ verbs.Reserve → arm_in w l.x.0 ≡ Some u → u ≢ t → BoxStep b (box_at (Serve t l) waiting) (Resv b.number w) (Resv b.number w) (box_at (Say t l (No u)) waiting)
+  refuse :
+      (t u : TrainId) (l : Letter) (waiting : Option Path) (w : ResvWord)
+      → l.verb ≡ verbs.Reserve → arm_in w l.x.0 ≡ Some u → u ≢ t
+      → BoxStep b (box_at (Serve t l) waiting) (Resv b.number w) (Resv b.number w) (box_at (Say t l (No u)) waiting)
   -- it releases the arm, which the train holds
-  release : (t : TrainId) (l : Letter) (waiting : Option Path) (w : ResvWord) → l.verb ≡ verbs.Release → arm_in w l.x.0 ≡ Some t → BoxStep b (box_at (Serve t l) waiting) (Resv b.number w) (Resv b.number (with_arm w l.x.0 None)) (box_at (Say t l Yes) waiting)
+  release :
+      (t : TrainId) (l : Letter) (waiting : Option Path) (w : ResvWord)
+      → l.verb ≡ verbs.Release → arm_in w l.x.0 ≡ Some t
+      → BoxStep b (box_at (Serve t l) waiting) (Resv b.number w)
+      (Resv b.number (with_arm w l.x.0 None)) (box_at (Say t l Yes) waiting)
   -- it locks the passage, which it connects as it stands
-  lock : (t : TrainId) (l : Letter) (side : Side) → l.verb ≡ verbs.Lock → connects b l side ≡ true → BoxStep b (box_at (Serve t l) None) (Lock b.number (Free side)) (Lock b.number (Locked (path_of t l))) (box_at (Say t l Yes) None)
+  lock :
+      (t : TrainId) (l : Letter) (side : Side)
+      → l.verb ≡ verbs.Lock → connects b l side ≡ true
+      → BoxStep b (box_at (Serve t l) None) (Lock b.number (Free side))
+      (Lock b.number (Locked (path_of t l))) (box_at (Say t l Yes) None)
   -- it asks its machine for the points, since it connects the passage at the other side alone
-  ask : (t : TrainId) (l : Letter) (side : Side) → l.verb ≡ verbs.Lock → connects b l side ≡ false → connects b l (other_side side) ≡ true → BoxStep b (box_at (Serve t l) None) (Lock b.number (Free side)) (Lock b.number (Asked (path_of t l))) (box_at Ready (Some (path_of t l)))
+  ask :
+      (t : TrainId) (l : Letter) (side : Side)
+      → l.verb ≡ verbs.Lock → connects b l side ≡ false → connects b l (other_side side) ≡ true
+      → BoxStep b (box_at (Serve t l) None) (Lock b.number (Free side))
+      (Lock b.number (Asked (path_of t l))) (box_at Ready (Some (path_of t l)))
   -- the points that it waits for have moved
-  moved : (p : Path) → BoxStep b (box_at Ready (Some p)) (Lock b.number (Moved p)) (Lock b.number (Locked p)) (box_at (Say p.train (about_passage b.number verbs.Lock p.x p.y) Yes) None)
+  moved :
+      (p : Path)
+      → BoxStep b (box_at Ready (Some p)) (Lock b.number (Moved p))
+      (Lock b.number (Locked p)) (box_at (Say p.train (about_passage b.number verbs.Lock p.x p.y) Yes) None)
   -- it unlocks the passage, which the train has locked
-  unlock : (t : TrainId) (l : Letter) (side : Side) → l.verb ≡ verbs.Unlock → joining_side b.kind l.x.0 l.y.0 ≡ Some side → BoxStep b (box_at (Serve t l) None) (Lock b.number (Locked (path_of t l))) (Lock b.number (Free side)) (box_at (Say t l Yes) None)
+  unlock :
+      (t : TrainId) (l : Letter) (side : Side)
+      → l.verb ≡ verbs.Unlock → joining_side b.kind l.x.0 l.y.0 ≡ Some side
+      → BoxStep b (box_at (Serve t l) None) (Lock b.number (Locked (path_of t l)))
+      (Lock b.number (Free side)) (box_at (Say t l Yes) None)
   -- it says yes
-  say_yes : (t : TrainId) (l : Letter) (waiting : Option Path) → BoxStep b (box_at (Say t l Yes) waiting) (Mail t (mails.Taken l)) (Mail t (mails.Yes l)) (box_at Ready waiting)
+  say_yes :
+      (t : TrainId) (l : Letter) (waiting : Option Path)
+      → BoxStep b (box_at (Say t l Yes) waiting) (Mail t (mails.Taken l)) (Mail t (mails.Yes l)) (box_at Ready waiting)
   -- it says no to a reservation: the train is refused
-  say_refused : (t u : TrainId) (l : Letter) (waiting : Option Path) → l.verb ≡ verbs.Reserve → BoxStep b (box_at (Say t l (No u)) waiting) (Mail t (mails.Taken l)) (Mail t (mails.No l u)) (box_at Ready waiting)
+  say_refused :
+      (t u : TrainId) (l : Letter) (waiting : Option Path)
+      → l.verb ≡ verbs.Reserve
+      → BoxStep b (box_at (Say t l (No u)) waiting) (Mail t (mails.Taken l))
+      (Mail t (mails.No l u)) (box_at Ready waiting)
   -- it says no to a lock: the train is barred
-  say_barred : (t u : TrainId) (l : Letter) (waiting : Option Path) → l.verb ≡ verbs.Lock → BoxStep b (box_at (Say t l (No u)) waiting) (Mail t (mails.Taken l)) (Mail t (mails.No l u)) (box_at Ready waiting)
+  say_barred :
+      (t u : TrainId) (l : Letter) (waiting : Option Path)
+      → l.verb ≡ verbs.Lock
+      → BoxStep b (box_at (Say t l (No u)) waiting) (Mail t (mails.Taken l))
+      (Mail t (mails.No l u)) (box_at Ready waiting)
   -- another train has the lock
-  busy : (t : TrainId) (l : Letter) (p : Path) → l.verb ≡ verbs.Lock → p.train ≢ t → BoxStep b (box_at (Serve t l) None) (Lock b.number (Locked p)) (Lock b.number (Locked p)) (box_at (Say t l (No p.train)) None)
+  busy :
+      (t : TrainId) (l : Letter) (p : Path)
+      → l.verb ≡ verbs.Lock → p.train ≢ t
+      → BoxStep b (box_at (Serve t l) None) (Lock b.number (Locked p))
+      (Lock b.number (Locked p)) (box_at (Say t l (No p.train)) None)
 
 abbrev pub same_train : TrainId → TrainId → Bool
 same_train t u = t.0 == u.0
@@ -86,13 +129,15 @@ answered l (No u) = if is_refusable l.verb then Some (mails.No l u) else None
 
 -- what a box with this work does with the mail word of train t
 abbrev pub mail_turn : BoxTable → TrainId → Work → MailWord → Option (MailWord × Work)
-mail_turn b t Ready (mails.Ask l) = if l.to.0 == b.number.0 && has_arms b l then Some (mails.Taken l, Serve t l) else None
+mail_turn b t Ready (mails.Ask l) =
+    if l.to.0 == b.number.0 && has_arms b l then Some (mails.Taken l, Serve t l) else None
 mail_turn b t Ready mails.Empty = None
 mail_turn b t Ready (mails.Taken l) = None
 mail_turn b t Ready (mails.Yes l) = None
 mail_turn b t Ready (mails.No l u) = None
 mail_turn b t (Serve to l) v = None
-mail_turn b t (Say to l answer) (mails.Taken asked) = if same_train t to && same_letter asked l then option_map (λ v. (v, Ready)) (answered l answer) else None
+mail_turn b t (Say to l answer) (mails.Taken asked) =
+    if same_train t to && same_letter asked l then option_map (λ v. (v, Ready)) (answered l answer) else None
 mail_turn b t (Say to l answer) mails.Empty = None
 mail_turn b t (Say to l answer) (mails.Ask asked) = None
 mail_turn b t (Say to l answer) (mails.Yes asked) = None
@@ -123,7 +168,8 @@ lock_turn b t l verbs.Lock (Free side) =
 lock_turn b t l verbs.Lock (Asked p) = None
 lock_turn b t l verbs.Lock (Moving p) = None
 lock_turn b t l verbs.Lock (Moved p) = None
-lock_turn b t l verbs.Lock (Locked p) = if same_train p.train t then None else Some (Locked p, box_at (Say t l (No p.train)) None)
+lock_turn b t l verbs.Lock (Locked p) =
+    if same_train p.train t then None else Some (Locked p, box_at (Say t l (No p.train)) None)
 lock_turn b t l verbs.Unlock (Free side) = None
 lock_turn b t l verbs.Unlock (Asked p) = None
 lock_turn b t l verbs.Unlock (Moving p) = None
@@ -138,7 +184,10 @@ abbrev pub points_turn : BoxTable → Path → LockWord → Option (LockWord × 
 points_turn b p (Free side) = None
 points_turn b p (Asked q) = None
 points_turn b p (Moving q) = None
-points_turn b p (Moved q) = if same_path q p then Some (Locked p, box_at (Say p.train (about_passage b.number verbs.Lock p.x p.y) Yes) None) else None
+points_turn b p (Moved q) =
+    if same_path q p
+    then Some (Locked p, box_at (Say p.train (about_passage b.number verbs.Lock p.x p.y) Yes) None)
+    else None
 points_turn b p (Locked q) = None
 
 abbrev pub on_lock : BoxTable → Work → Option Path → LockWord → Option (LockWord × BoxMind)
@@ -150,8 +199,10 @@ on_lock b (Say t l answer) waiting v = None
 
 -- what a box does with a word: with its own reservation and lock words, and with mail words
 abbrev pub box_on : BoxTable → BoxMind → Word → Option (Word × BoxMind)
-box_on b mind (Resv c v) = if c.0 == b.number.0 then option_map (λ r. (Resv c r.0, box_at r.1 mind.waiting)) (on_resv mind.work v) else None
-box_on b mind (Lock c v) = if c.0 == b.number.0 then option_map (λ r. (Lock c r.0, r.1)) (on_lock b mind.work mind.waiting v) else None
+box_on b mind (Resv c v) =
+    if c.0 == b.number.0 then option_map (λ r. (Resv c r.0, box_at r.1 mind.waiting)) (on_resv mind.work v) else None
+box_on b mind (Lock c v) =
+    if c.0 == b.number.0 then option_map (λ r. (Lock c r.0, r.1)) (on_lock b mind.work mind.waiting v) else None
 box_on b mind (Mail t v) = option_map (λ r. (Mail t r.0, box_at r.1 mind.waiting)) (mail_turn b t mind.work v)
 box_on b mind (Run t v) = None
 box_on b mind (Sense t v) = None

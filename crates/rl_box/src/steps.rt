@@ -61,7 +61,8 @@ impl BoxMind {
         requires there { b.now.number.0 < lay.now.boxes }
         requires within { w.0 < word_count lay.now }
         requires mind { IsBoxMind lay.now b.now self.now }
-        ensures step { (kind : WordKind) → HasWord lay.now kind → word_number lay.now kind ≡ w.0 → result ≡ box_step b.now self.now kind payload }
+        ensures step { (kind : WordKind) → HasWord lay.now kind → word_number lay.now kind ≡ w.0
+            → result ≡ box_step b.now self.now kind payload }
         ensures kept { IfSome result (λ r. IsBoxMind lay.now b.now r.1) }
     {
         // Where a glance says no there is no step, for the proof.

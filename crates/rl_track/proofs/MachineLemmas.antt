@@ -1,5 +1,5 @@
 -- The steps of a point machine: the function gives exactly those of the sentences, and what they keep to.
-use Rattle.std.proofs.Common.{◌≡◌, ℕ, ◌^◌, ◌<◌, ◌==◌, Bool, true, false, Option, Some, None, refl, sym, ap, subst, ◌∙◌, arith}
+use Rattle.std.proofs.Common.{◌≡◌, ℕ, ◌^◌, ◌<◌, ◌==◌, true, Some, refl, sym, ap, subst, ◌∙◌}
 use Rattle.std.proofs.lemmas.Bool.{eqb-true, eq-eqb}
 use Rattle.std.proofs.lemmas.Option.{same_Some, some_pair_parts}
 use Rattle.rl_base.specs.declared.ids.BoxId.{BoxId}
@@ -11,7 +11,7 @@ use Rattle.rl_base.specs.Layout.{HasWord, HasNode, word_number, node_number}
 use Rattle.rl_words.specs.declared.lock.LockWord.{LockWord}
 use Rattle.rl_words.specs.declared.lock.LockWord.TheVariants.{Free, Asked, Moving, Moved, Locked}
 use Rattle.rl_words.specs.Owner.{Owns}
-use Rattle.rl_words.specs.Word.{Word, kind_of, FitsWord, packed_word, read_word, word_owner, IsReading, PackedStep}
+use Rattle.rl_words.specs.Word.{Word, kind_of, FitsWord, word_owner, PackedStep}
 use Rattle.rl_words.specs.Word.Word.{Resv, Lock, Mail, Run, Sense}
 use Rattle.rl_words.proofs.PackedSteps.{guarded, mapped, packed_front, packed_back, packed_by}
 use Rattle.rl_track.specs.declared.machine.MachineMind.{MachineMind}

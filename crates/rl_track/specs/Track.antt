@@ -1,6 +1,6 @@
 -- The track of a train: its mind, and its steps, first as sentences, one for each line of the table of steps, then as
 -- a function.
-use Rattle.std.specs.Prelude.{◌≡◌, ℕ, ◌+◌, ◌==◌, ◌≤◌, Option, Some, None, option_map, if◌then◌else◌}
+use Rattle.std.specs.Prelude.{ℕ, ◌+◌, ◌==◌, ◌≤◌, Option, Some, None, option_map, if◌then◌else◌}
 use Rattle.rl_base.specs.declared.ids.TrainId.{TrainId}
 use Rattle.rl_base.specs.declared.layout.WordKind.{WordKind}
 use Rattle.rl_base.specs.declared.layout.WordKind.TheVariants as kinds
@@ -68,8 +68,10 @@ abbrev pub track_on : TrainId → TrackMind → Word → Option (Word × TrackMi
 track_on t mind (Resv b v) = None
 track_on t mind (Lock b v) = None
 track_on t mind (Mail u v) = None
-track_on t mind (Run u v) = if u.0 == t.0 then option_map (λ r. (Run u r.0, r.1)) (run_turn mind.step mind.phase v) else None
-track_on t mind (Sense u v) = if u.0 == t.0 then option_map (λ r. (Sense u r.0, r.1)) (sense_turn mind.step mind.phase v) else None
+track_on t mind (Run u v) =
+    if u.0 == t.0 then option_map (λ r. (Run u r.0, r.1)) (run_turn mind.step mind.phase v) else None
+track_on t mind (Sense u v) =
+    if u.0 == t.0 then option_map (λ r. (Sense u r.0, r.1)) (sense_turn mind.step mind.phase v) else None
 
 -- the same of payloads
 unfoldable pub track_step : TrainId → TrackMind → WordKind → ℕ → Option (ℕ × TrackMind)

@@ -1,6 +1,6 @@
 -- The function gives exactly the steps of the sentences.
-use Rattle.std.proofs.Common.{◌≡◌, ℕ, ◌+◌, ◌==◌, Bool, true, false, not, ◌&&◌, ◌||◌, Option, Some, None, if◌then◌else◌, refl, sym, ap, subst, ◌∙◌, arith}
-use Rattle.std.specs.Prelude.{option_map, option_and_then}
+use Rattle.std.proofs.Common.{◌≡◌, ℕ, ◌+◌, ◌==◌, true, false, not, ◌&&◌, ◌||◌, Option, Some, None, refl, sym, ap, subst, ◌∙◌}
+use Rattle.std.specs.Prelude.{option_and_then}
 use Rattle.std.specs.Option.{option_map_or}
 use Rattle.std.proofs.lemmas.Bool.{and_parts, and_from, or_parts, or_from, eqb-true, eq-eqb, not-true, not_from_false}
 use Rattle.std.proofs.lemmas.Option.{same_Some}
@@ -21,7 +21,7 @@ use Rattle.rl_words.proofs.PackedSteps.{guarded, unless, mapped, followed}
 use Rattle.rl_tables.specs.declared.table.StepRow.{StepRow}
 use Rattle.rl_tables.specs.declared.table.TrainTable.{TrainTable}
 use Rattle.rl_train.specs.declared.mind.TrainMind.{TrainMind}
-use Rattle.rl_train.specs.Jobs.{letter, after_no, asks, is_pass}
+use Rattle.rl_train.specs.Jobs.{letter, asks, is_pass}
 use Rattle.rl_train.specs.Mind.{row_of, is_resting}
 use Rattle.rl_train.specs.Steps.{posted, heard, denied, TrainStep, mail_turn, on_mail, on_run, on_sense, train_on}
 use Rattle.rl_train.specs.Steps.TrainStep.{post, hear_yes, hear_no, go, quiet}

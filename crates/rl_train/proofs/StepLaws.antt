@@ -1,6 +1,6 @@
 -- The laws of the steps of a train.
-use Rattle.std.proofs.Common.{◌≡◌, ℕ, ◌+◌, ◌^◌, ◌<◌, ◌≤◌, Bool, true, false, not, ◌&&◌, ◌||◌, length, slice_get, Option, Some, None, refl, sym, ap, subst, ◌∙◌, arith}
-use Rattle.std.proofs.lemmas.Bool.{and_right, not_from_true}
+use Rattle.std.proofs.Common.{◌≡◌, ℕ, ◌^◌, ◌<◌, true, false, Some, refl, sym, ap, subst, ◌∙◌, arith}
+use Rattle.std.proofs.lemmas.Bool.{and_right}
 use Rattle.std.proofs.lemmas.Option.{same_Some, some_pair_parts}
 use Rattle.rl_base.specs.declared.job.Job.{Job}
 use Rattle.rl_base.specs.declared.job.Job.TheVariants.{Near, Far, Lock, Pass, Unlock, FreeNear, FreeFar, DropFar, DropNear}

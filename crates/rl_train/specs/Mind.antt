@@ -1,5 +1,5 @@
 -- The mind of a train: at the start, at rest, and what is true of it at all times.
-use Rattle.std.specs.Prelude.{◌≡◌, ℕ, ◌+◌, ◌<◌, ◌≤◌, ◌≢◌, ◌==◌, Bool, true, false, not, ◌&&◌, ◌||◌, length, slice_get, Option, Some, if◌then◌else◌}
+use Rattle.std.specs.Prelude.{◌≡◌, ℕ, ◌+◌, ◌<◌, ◌≤◌, ◌≢◌, ◌==◌, Bool, false, not, ◌&&◌, ◌||◌, length, slice_get, Option, Some, if◌then◌else◌}
 use Rattle.rl_base.specs.declared.job.Job.TheVariants.{Near}
 use Rattle.rl_tables.specs.declared.table.StepRow.{StepRow}
 use Rattle.rl_tables.specs.declared.table.TrainTable.{TrainTable}

@@ -15,9 +15,13 @@ use rl_words::{letters, words};
 /// The function of a train gives exactly the steps of the sentences: of words, and of their payloads. So it gives
 /// none exactly where no line fits, and no two lines that fit differ.
 pub fn train_lines()
-    ensures words { (table : TrainTable) (mind : TrainMind) (word next : Word) (after : TrainMind) → (train_on table mind word ≡ Some (next, after)) ↔ TrainStep table mind word next after }
-    ensures payloads { (table : TrainTable) (mind : TrainMind) (kind : WordKind) (payload new : ℕ) (after : TrainMind) → (train_step table mind kind payload ≡ Some (new, after)) ↔ PackedStep (TrainStep table mind) kind payload new after }
-    ensures one { (table : TrainTable) (mind : TrainMind) (word next other : Word) (after last : TrainMind) → TrainStep table mind word next after → TrainStep table mind word other last → (next ≡ other) × (after ≡ last) }
+    ensures words { (table : TrainTable) (mind : TrainMind) (word next : Word) (after : TrainMind)
+        → (train_on table mind word ≡ Some (next, after)) ↔ TrainStep table mind word next after }
+    ensures payloads { (table : TrainTable) (mind : TrainMind) (kind : WordKind) (payload new : ℕ) (after : TrainMind)
+        → (train_step table mind kind payload ≡ Some (new, after)) ↔ PackedStep (TrainStep table mind) kind payload new after }
+    ensures one { (table : TrainTable) (mind : TrainMind) (word next other : Word) (after last : TrainMind)
+        → TrainStep table mind word next after → TrainStep table mind word other last
+        → (next ≡ other) × (after ≡ last) }
 {
     // Letters that are compared field by field are one, for the proof.
     letters();
@@ -26,7 +30,9 @@ pub fn train_lines()
 /// A step of a train changes the word that it looks at and owns, leaves a value of that word there, and a
 /// well-formed mind.
 pub fn train_steps()
-    ensures { (lay : Layout) (table : TrainTable) (mind : TrainMind) (kind : WordKind) (payload new : ℕ) (after : TrainMind) → IsTrainOn lay table mind → train_step table mind kind payload ≡ Some (new, after) → KeepsTrain lay table mind kind payload new after }
+    ensures { (lay : Layout) (table : TrainTable) (mind : TrainMind) (kind : WordKind) (payload new : ℕ) (after : TrainMind)
+        → IsTrainOn lay table mind → train_step table mind kind payload ≡ Some (new, after)
+        → KeepsTrain lay table mind kind payload new after }
 {
     // What is known of letters and of any word, for the proof.
     letters();
@@ -35,5 +41,6 @@ pub fn train_steps()
 
 /// The table of each train of a line is one by which a train can step.
 pub fn usable_tables()
-    ensures { (tables : Tables) (t : ℕ) (table : TrainTable) → IsLine tables → slice_get tables.trains t ≡ Some table → IsUsable table }
+    ensures { (tables : Tables) (t : ℕ) (table : TrainTable) → IsLine tables → slice_get tables.trains t ≡ Some table
+        → IsUsable table }
 {}

@@ -179,7 +179,8 @@ impl TrainMind {
     /// The mind after a post.
     fn posted(&self) -> TrainMind
         ensures mind { result ≡ posted self.now }
-        ensures kept { (table : TrainTable) → IsTrainMind table self.now → self.now.waits ≡ false → is_resting table self.now ≡ false → IsTrainMind table result }
+        ensures kept { (table : TrainTable) → IsTrainMind table self.now → self.now.waits ≡ false
+            → is_resting table self.now ≡ false → IsTrainMind table result }
     {
         let left = if is_near(self.job) {
             self.left.saturating_sub(1)
@@ -215,7 +216,8 @@ impl TrainMind {
     fn denied(&self, _row: &StepRow, next: Job) -> TrainMind
         requires { self.now.refused ≤ 1000 }
         ensures mind { result ≡ denied next self.now }
-        ensures kept { (table : TrainTable) → IsTrainMind table self.now → self.now.waits ≡ true → after_no _row.now self.now.job ≡ Some next → IsTrainMind table result }
+        ensures kept { (table : TrainTable) → IsTrainMind table self.now → self.now.waits ≡ true
+            → after_no _row.now self.now.job ≡ Some next → IsTrainMind table result }
     {
         TrainMind {
             waits: false,

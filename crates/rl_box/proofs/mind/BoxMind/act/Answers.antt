@@ -1,7 +1,4 @@
 use Rattle.std.proofs.Common.{◌≡◌, ℕ, Option, Some, None, IfSome, sym}
-use Rattle.rl_base.specs.declared.layout.Layout.{Layout}
-use Rattle.rl_base.specs.declared.layout.WordKind.{WordKind}
-use Rattle.rl_tables.specs.declared.table.BoxTable.{BoxTable}
 use Rattle.rl_box.specs.declared.mind.BoxMind.{BoxMind}
 use Rattle.rl_box.specs.Kept.{IsAtWord, KeepsBox}
 use Rattle.rl_box.specs.Mind.{IsBoxMind}
