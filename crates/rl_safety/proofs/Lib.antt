@@ -4,3 +4,4 @@ pub mod Words
 pub mod Effects
 pub mod TrainLabels
 pub mod BoxLabels
+pub mod Events
