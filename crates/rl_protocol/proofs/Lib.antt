@@ -25,3 +25,5 @@ pub mod Ranks
 pub mod Counted
 pub mod Totals
 pub mod ExampleRun
+pub mod TableLines
+pub mod Named

@@ -77,7 +77,7 @@ arms_are : (kind : Kind) (p : Path) (x y : ℕ) → p.x.0 ≡ x → p.y.0 ≡ y 
 arms_are kind p x y e f = ap (λ z. joining_side kind z p.y.0) e ∙ ap (λ z. joining_side kind x z) f
 
 -- who has a lock that is set
-held_lock : (w : LockWord) (u : TrainId) → lock_holder w ≡ Some u → (p : Path) × (w ≡ Locked p) × (p.train ≡ u)
+pub held_lock : (w : LockWord) (u : TrainId) → lock_holder w ≡ Some u → (p : Path) × (w ≡ Locked p) × (p.train ≡ u)
 held_lock (Free side) u h = cc
 held_lock (Asked p) u h = cc
 held_lock (Moving p) u h = cc
@@ -91,7 +91,7 @@ MovesBy net w v (Some m) = IsMove net w v m
 
 module _ (net : NetworkPlan) (line : Line) (tries : ℕ) (s : State) (network : IsNetwork net) (are : ArePlaced net) (of : IsLineOf net line) (laws : IsConsistent line) (agrees : Agrees line tries s) where
   -- the arm of a letter in hand is there
-  letter_there : (b t : ℕ) (l : Letter) → HasTaken line s b t l → line.has_arm b l.x.0 ≡ true
+  pub letter_there : (b t : ℕ) (l : Letter) → HasTaken line s b t l → line.has_arm b l.x.0 ≡ true
   letter_there b t l has =
       subst (λ z. line.has_arm z l.x.0 ≡ true) has.to
       (letter_arm line (row_of line t (s.trains t)) (s.trains t).job l (row_arms line t (s.trains t).step laws (waiting_within line tries s t agrees has.waits)) has.letter)
@@ -111,7 +111,7 @@ module _ (net : NetworkPlan) (line : Line) (tries : ℕ) (s : State) (network : 
       ∙ subst (λ z. line.ends t k z l.x.0 ≡ false) has.to off
 
   -- a train that passes has the steps of its route before it, and an empty mailbox
-  passing_within : (t : ℕ) → is_passing (s.trains t) ≡ true → (s.trains t).step < line.steps t
+  pub passing_within : (t : ℕ) → is_passing (s.trains t) ≡ true → (s.trains t).step < line.steps t
   passing_within t h = waiting_within line tries s t agrees (and_parts _ _ h).0
 
   passing_mail : (t : ℕ) → is_passing (s.trains t) ≡ true → s.mail t ≡ Empty
@@ -137,7 +137,7 @@ module _ (net : NetworkPlan) (line : Line) (tries : ℕ) (s : State) (network : 
       by_job mail = ap (λ m. locked_with (done_in (λ c. has_done_for t (s.boxes c)) m) b x y (job_locks line t (s.trains t) b x y)) mail
 
   -- the segments of a step that is of the route
-  row_step : (t k : ℕ) → k < line.steps t → let row = line.row t k in IsStep net t k row.s.0 row.b.0 row.s2.0
+  pub row_step : (t k : ℕ) → k < line.steps t → let row = line.row t k in IsStep net t k row.s.0 row.b.0 row.s2.0
   row_step t k h = of.rows t k h
 
   to_there : (t k s2 : ℕ) → route_segment net t k ≡ Some s2 → (g : Segment) × (slice_get net.segments s2 ≡ Some g)
@@ -191,12 +191,12 @@ module _ (net : NetworkPlan) (line : Line) (tries : ℕ) (s : State) (network : 
       ∙ set_connects net row.b.0 row.s.0 row.s2.0 row.x.0 row.y.0 side.0 (are.to_arm _ _ _ (row_from t k within)) (are.to_arm _ _ _ (row_to t k within)) side.2
 
   -- the path of a letter in hand
-  asked_at : (b t : ℕ) (l : Letter) → HasTaken line s b t l → l.verb ≡ verbs.Lock → IsPathAt net line b (path_of (train t) l)
+  pub asked_at : (b t : ℕ) (l : Letter) → HasTaken line s b t l → l.verb ≡ verbs.Lock → IsPathAt net line b (path_of (train t) l)
   asked_at b t l has verb =
       path_at net line t (s.trains t) b (path_of (train t) l) laws of
       (subst (λ z. IsOwnPath line t (s.trains t) z l.x.0 l.y.0) has.to (lock_path line tries s t l agrees has.waits has.letter verb))
 
-  unlocked_at : (b t : ℕ) (l : Letter) → HasTaken line s b t l → l.verb ≡ verbs.Unlock → IsPathAt net line b (path_of (train t) l)
+  pub unlocked_at : (b t : ℕ) (l : Letter) → HasTaken line s b t l → l.verb ≡ verbs.Unlock → IsPathAt net line b (path_of (train t) l)
   unlocked_at b t l has verb =
       path_at net line t (s.trains t) b (path_of (train t) l) laws of
       (subst (λ z. IsOwnPath line t (s.trains t) z l.x.0 l.y.0) has.to (unlock_path line tries s t l agrees has.waits has.letter verb))
@@ -269,7 +269,7 @@ module _ (net : NetworkPlan) (line : Line) (tries : ℕ) (s : State) (network : 
   point_at : (b : ℕ) (p : Path) → (s.boxes b).waiting ≡ Some p → kind_of net b ≡ Point
   point_at b p h = sym (of.kind b) ∙ agrees.locks.points b p h
 
-  waited_at : (b : ℕ) (p : Path) → HasTaken line s b p.train.0 (letter_of_path b p) → IsPathAt net line b p
+  pub waited_at : (b : ℕ) (p : Path) → HasTaken line s b p.train.0 (letter_of_path b p) → IsPathAt net line b p
   waited_at b p has =
       path_at net line p.train.0 (s.trains p.train.0) b p laws of
       (subst (λ z. IsOwnPath line p.train.0 (s.trains p.train.0) z p.x.0 p.y.0) has.to (lock_path line tries s p.train.0 (letter_of_path b p) agrees has.waits has.letter refl))

@@ -86,7 +86,7 @@ below_weigh w line tries steps (suc t) laws run =
     distribute m n k = omega arith
 
 -- each step is about a train that is under way
-about_within : (line : Line) (tries : ℕ) (s : State) (step : Step) → Agrees line tries s → Fits line s step → Known line s step → line.steps (about step) ≡ 0 → ⊥
+pub about_within : (line : Line) (tries : ℕ) (s : State) (step : Step) → Agrees line tries s → Fits line s step → Known line s step → line.steps (about step) ≡ 0 → ⊥
 about_within line tries s step agrees fits known none =
     let attempts = agrees.attempts (about step) in
     let within = attempts.within in

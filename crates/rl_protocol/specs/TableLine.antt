@@ -1,7 +1,6 @@
 -- The line that tables say.
-use Rattle.std.specs.Prelude.{ℕ, zero, suc, ◌+◌, List, length, slice_get, Option, Some, is_some, option_map, option_and_then, unwrap_or}
+use Rattle.std.specs.Prelude.{ℕ, zero, suc, length, slice_get, Option, Some, is_some, option_map, option_and_then, unwrap_or}
 use Rattle.std.specs.Option.{option_map_or}
-use Rattle.rl_base.specs.declared.ids.SegId.{SegId}
 use Rattle.rl_base.specs.declared.kind.Side.TheVariants.{Left}
 use Rattle.rl_tables.specs.declared.table.BoxTable.{BoxTable}
 use Rattle.rl_tables.specs.declared.table.StepRow.{StepRow}

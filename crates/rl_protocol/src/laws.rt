@@ -1,13 +1,18 @@
-ghost use Rattle.std.specs.Prelude.{◌≡◌, ℕ, ◌*◌, ◌<◌, ◌≤◌, true, List, length, Some, None};
+ghost use Rattle.std.specs.Prelude.{◌≡◌, ℕ, ◌*◌, ◌<◌, ◌≤◌, true, List, length, slice_get, Some, None};
 ghost use Rattle.rl_base.specs.declared.layout.NodeKind.{NodeKind};
 ghost use Rattle.rl_base.specs.declared.layout.NodeKind.TheVariants as nodes;
 ghost use Rattle.rl_base.specs.declared.layout.WordKind.{WordKind};
 ghost use Rattle.rl_model.specs.declared.moves.Move.{Move};
 ghost use Rattle.rl_model.specs.declared.network.NetworkPlan.{NetworkPlan};
 ghost use Rattle.rl_model.specs.World as world;
-ghost use Rattle.rl_model.specs.Moves.{guards, AllHold, after};
+ghost use Rattle.rl_model.specs.Moves.{guards, AllHold, after, IsMoveOf};
 ghost use Rattle.rl_model.specs.Safety.{IsSafeRun, world_after};
 ghost use Rattle.rl_model.specs.Reports.{refused_in, Rests};
+ghost use Rattle.rl_model.specs.Network.{IsNetwork};
+ghost use Rattle.rl_tables.specs.declared.table.Tables.{Tables};
+ghost use Rattle.rl_tables.specs.Kept.{IsLine};
+ghost use Rattle.rl_tables.specs.Tables.{AreTablesOf};
+ghost use Rattle.rl_protocol.specs.TableLine.{line_of};
 ghost use Rattle.rl_protocol.specs.Line.{Line, IsConsistent};
 ghost use Rattle.rl_protocol.specs.State.{State, start};
 ghost use Rattle.rl_protocol.specs.Minds.{box, at_rest};
@@ -21,6 +26,14 @@ ghost use Rattle.rl_protocol.specs.Refusals.{refusals_said};
 ghost use Rattle.rl_protocol.specs.AtWork.{HasStep, word_at_work};
 ghost use Rattle.rl_protocol.specs.Rest.{AllRest, IsAtRest};
 
+/// The tables of a network say a consistent line of it, in which only the trains of the tables have steps to make.
+pub fn lines_of_tables()
+    ensures consistent { (tables : Tables) → IsLine tables → IsConsistent (line_of tables) }
+    ensures trains { (tables : Tables) → HasTrains (line_of tables) (length tables.trains) }
+    ensures railway { (net : NetworkPlan) (tables : Tables)
+        → IsNetwork net → IsLine tables → AreTablesOf net tables → IsRailway net (line_of tables) }
+{}
+
 /// Minds and words agree in every state that a run of steps leaves, whatever the nodes and their order.
 pub fn agreement()
     ensures start { (line : Line) (tries : ℕ) → IsConsistent line → Agrees line tries (start line tries) }
@@ -30,8 +43,8 @@ pub fn agreement()
         → Agrees line tries (state_after line tries steps) }
 {}
 
-/// The moves of every run are a safe run of the network: each is guarded in the world of the state before it, and
-/// makes that world the one of the state after it.
+/// The moves of every run are a safe run of the network: each names what is there, is guarded in the world of the state
+/// before it, and makes that world the one of the state after it.
 pub fn safe_runs_of_steps()
     ensures start { (net : NetworkPlan) (line : Line) (tries : ℕ) → IsRailway net line
         → world_at net (start line tries) ≡ world.start net }
@@ -44,6 +57,9 @@ pub fn safe_runs_of_steps()
     ensures unmoved { (net : NetworkPlan) (line : Line) (tries : ℕ) (s : State) (step : Step)
         → IsRailway net line → Agrees line tries s → Fits line s step → move_of line step ≡ None
         → world_at net (next line s step) ≡ world_at net s }
+    ensures named { (net : NetworkPlan) (line : Line) (tries : ℕ) (steps : List Step)
+        → IsRailway net line → IsRun line tries steps
+        → (k : ℕ) (m : Move) → slice_get (moves_of line steps) k ≡ Some m → IsMoveOf net m }
     ensures world { (net : NetworkPlan) (line : Line) (tries : ℕ) (steps : List Step)
         → IsRailway net line → IsRun line tries steps
         → world_at net (state_after line tries steps) ≡ world_after net (moves_of line steps) }
