@@ -147,7 +147,7 @@ pub record IsEventStep (tables : Tables) (tries : ℕ) (c : CoreState) (e : Even
   pub by : node_of step ≡ node
 
 -- what there is to know of the step of a node
-record IsStepAt (tables : Tables) (s : State) (node : NodeKind) (kind : WordKind) (payload : ℕ) (made : ℕ × Mind) : Type 0 where
+pub record IsStepAt (tables : Tables) (s : State) (node : NodeKind) (kind : WordKind) (payload : ℕ) (made : ℕ × Mind) : Type 0 where
   pub seen : Word
   pub left : Word
   pub saw : read_word kind payload ≡ Some seen
@@ -157,7 +157,7 @@ record IsStepAt (tables : Tables) (s : State) (node : NodeKind) (kind : WordKind
   pub mind : IsMindOf tables node made.1
   pub label : IsLabel tables s node made.1 seen left
 
-from_step : (tables : Tables) (tries : ℕ) (c : CoreState) (e : Event) (node : NodeKind) (kind : WordKind) (made : IsMade tables c e) → node_at (layout_of tables) e.node.0 ≡ Some node → word_at (layout_of tables) e.word.0 ≡ Some kind → IsStepAt tables (read tables tries c) node kind (payload_in e.was) made.made → IsEventStep tables tries c e
+pub from_step : (tables : Tables) (tries : ℕ) (c : CoreState) (e : Event) (node : NodeKind) (kind : WordKind) (made : IsMade tables c e) → node_at (layout_of tables) e.node.0 ≡ Some node → word_at (layout_of tables) e.word.0 ≡ Some kind → IsStepAt tables (read tables tries c) node kind (payload_in e.was) made.made → IsEventStep tables tries c e
 from_step tables tries c e node kind made at word there =
     let by : IsBy tables c e node made.made.1 = record { at = at; mind_is = made.mind } in
     let word_left : word_at (layout_of tables) e.word.0 ≡ Some (kind_of there.left) = word ∙ ap Some (sym there.kind_left) in
@@ -176,7 +176,7 @@ from_step tables tries c e node kind made at word there =
     }
 
 -- the steps of the four kinds of node
-train_event : StepsKeep → ReadsWords → (tables : Tables) (tries : ℕ) (c : CoreState) (t : TrainId) (m : TrainMind) (kind : WordKind) (payload : ℕ) (made : ℕ × Mind) → IsLine tables → t.0 < length tables.trains → c.minds t.0 ≡ Train m → IsMindOf tables (nodes.Train t) (Train m) → payload_of tables c kind ≡ payload → step_of tables (nodes.Train t) (Train m) kind payload ≡ Some made → IsStepAt tables (read tables tries c) (nodes.Train t) kind payload made
+pub train_event : StepsKeep → ReadsWords → (tables : Tables) (tries : ℕ) (c : CoreState) (t : TrainId) (m : TrainMind) (kind : WordKind) (payload : ℕ) (made : ℕ × Mind) → IsLine tables → t.0 < length tables.trains → c.minds t.0 ≡ Train m → IsMindOf tables (nodes.Train t) (Train m) → payload_of tables c kind ≡ payload → step_of tables (nodes.Train t) (Train m) kind payload ≡ Some made → IsStepAt tables (read tables tries c) (nodes.Train t) kind payload made
 train_event laws words tables tries c t m kind payload made line there mind sound is step =
     let found = from_then (λ (x : TrainTable). as_mind Train (train_step x m kind payload)) (slice_get tables.trains t.0) made step in
     let x : TrainTable = found.0 in
@@ -207,7 +207,7 @@ train_event laws words tables tries c t m kind payload made line there mind soun
       label = subst L named label;
     }
 
-track_event : StepsKeep → ReadsWords → (tables : Tables) (tries : ℕ) (c : CoreState) (t : TrainId) (m : TrackMind) (kind : WordKind) (payload : ℕ) (made : ℕ × Mind) → t.0 < length tables.trains → c.minds (length tables.trains + t.0) ≡ Track m → IsMindOf tables (nodes.Track t) (Track m) → ((k : ℕ) → m ≡ track_at k Watch → (read tables tries c).run t.0 ≡ Go k → row_at tables t.0 k ≡ Some ((line_of tables).row t.0 k)) → ((k : ℕ) → m ≡ track_at k LeaveDue → (read tables tries c).run t.0 ≡ Across k → row_at tables t.0 k ≡ Some ((line_of tables).row t.0 k)) → payload_of tables c kind ≡ payload → step_of tables (nodes.Track t) (Track m) kind payload ≡ Some made → IsStepAt tables (read tables tries c) (nodes.Track t) kind payload made
+pub track_event : StepsKeep → ReadsWords → (tables : Tables) (tries : ℕ) (c : CoreState) (t : TrainId) (m : TrackMind) (kind : WordKind) (payload : ℕ) (made : ℕ × Mind) → t.0 < length tables.trains → c.minds (length tables.trains + t.0) ≡ Track m → IsMindOf tables (nodes.Track t) (Track m) → ((k : ℕ) → m ≡ track_at k Watch → (read tables tries c).run t.0 ≡ Go k → row_at tables t.0 k ≡ Some ((line_of tables).row t.0 k)) → ((k : ℕ) → m ≡ track_at k LeaveDue → (read tables tries c).run t.0 ≡ Across k → row_at tables t.0 k ≡ Some ((line_of tables).row t.0 k)) → payload_of tables c kind ≡ payload → step_of tables (nodes.Track t) (Track m) kind payload ≡ Some made → IsStepAt tables (read tables tries c) (nodes.Track t) kind payload made
 track_event laws words tables tries c t m kind payload made there mind sound enters leaves is step =
     let stepped = from_map (λ (r : ℕ × TrackMind). let pair : ℕ × Mind = (r.0, Track r.1) in pair) (track_step t m kind payload) made step in
     let kept = laws.tracks (layout_of tables) t m kind payload stepped.0.0 stepped.0.1 there sound stepped.1 in
@@ -224,7 +224,7 @@ track_event laws words tables tries c t m kind payload made there mind sound ent
       label = track_label tables (read tables tries c) t m stepped.0.1 kept.seen kept.left (track_here tables tries c t m there mind) says enters leaves kept.step;
     }
 
-box_event : StepsKeep → ReadsWords → KeepsArms → (tables : Tables) (tries : ℕ) (c : CoreState) (b : BoxId) (m : BoxMind) (kind : WordKind) (payload : ℕ) (made : ℕ × Mind) → IsLine tables → HasWord (layout_of tables) kind → b.0 < length tables.boxes → c.minds (2 * length tables.trains + b.0) ≡ Box m → IsMindOf tables (nodes.Box b) (Box m) → payload_of tables c kind ≡ payload → step_of tables (nodes.Box b) (Box m) kind payload ≡ Some made → IsStepAt tables (read tables tries c) (nodes.Box b) kind payload made
+pub box_event : StepsKeep → ReadsWords → KeepsArms → (tables : Tables) (tries : ℕ) (c : CoreState) (b : BoxId) (m : BoxMind) (kind : WordKind) (payload : ℕ) (made : ℕ × Mind) → IsLine tables → HasWord (layout_of tables) kind → b.0 < length tables.boxes → c.minds (2 * length tables.trains + b.0) ≡ Box m → IsMindOf tables (nodes.Box b) (Box m) → payload_of tables c kind ≡ payload → step_of tables (nodes.Box b) (Box m) kind payload ≡ Some made → IsStepAt tables (read tables tries c) (nodes.Box b) kind payload made
 box_event laws words arms tables tries c b m kind payload made line has there mind sound is step =
     let found = from_then (λ (x : BoxTable). as_mind Box (box_step x m kind payload)) (slice_get tables.boxes b.0) made step in
     let x : BoxTable = found.0 in
@@ -256,7 +256,7 @@ box_event laws words arms tables tries c b m kind payload made line has there mi
       label = subst L named label;
     }
 
-machine_event : StepsKeep → ReadsWords → (tables : Tables) (tries : ℕ) (c : CoreState) (b : BoxId) (m : MachineMind) (kind : WordKind) (payload : ℕ) (made : ℕ × Mind) → b.0 < length tables.boxes → payload_of tables c kind ≡ payload → step_of tables (nodes.Machine b) (Machine m) kind payload ≡ Some made → IsStepAt tables (read tables tries c) (nodes.Machine b) kind payload made
+pub machine_event : StepsKeep → ReadsWords → (tables : Tables) (tries : ℕ) (c : CoreState) (b : BoxId) (m : MachineMind) (kind : WordKind) (payload : ℕ) (made : ℕ × Mind) → b.0 < length tables.boxes → payload_of tables c kind ≡ payload → step_of tables (nodes.Machine b) (Machine m) kind payload ≡ Some made → IsStepAt tables (read tables tries c) (nodes.Machine b) kind payload made
 machine_event laws words tables tries c b m kind payload made there is step =
     let stepped = from_map (λ (r : ℕ × MachineMind). let pair : ℕ × Mind = (r.0, Machine r.1) in pair) (machine_step b m kind payload) made step in
     let kept = laws.machines (layout_of tables) b m kind payload stepped.0.0 stepped.0.1 there stepped.1 in

@@ -5,3 +5,4 @@ pub mod Effects
 pub mod TrainLabels
 pub mod BoxLabels
 pub mod Events
+pub mod Runs
