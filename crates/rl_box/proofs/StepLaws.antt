@@ -114,7 +114,10 @@ keeps same arms reads small owns lay b mind kind payload new after at e =
     record {
       target = subst (LooksAt lay b mind) r.kind_is (looks lay b mind p.seen p.left after p.step there);
       owned = subst by_kind r.kind_is (subst by_node own (subst by_payload r.packed (owns lay p.seen there node r.fits)));
+      seen = p.seen;
       left = p.left;
+      saw = p.reads;
+      step = p.step;
       reads = record { kind_is = same_kind b mind p.seen p.left after p.step ∙ r.kind_is; fits = kept.0; packed = p.packs };
       small = subst (λ n. n < 2 ^ 32) p.packs (small p.left kept.0);
       after_is = kept.1;

@@ -55,7 +55,7 @@ box_number tables b x line there =
 train_target_there : (lay : Layout) (x : TrainTable) (m : TrainMind) (kind : WordKind) → x.number.0 < lay.trains → train_target x m ≡ Some kind → HasWord lay kind
 train_target_there lay x m kind number is = by (is_resting x m) (is_pass m.job) m.waits kind is
   where
-    by : (rests pass waits : Bool) (kind : WordKind) → (if rests then None else Some (if pass then (if waits then kinds.Sense x.number else kinds.Run x.number) else kinds.Mail x.number)) ≡ Some kind → HasWord lay kind
+    by : (rests pass waits : Bool) (kind : WordKind) → (if rests then None else (if pass then Some (if waits then kinds.Sense x.number else kinds.Run x.number) else Some (kinds.Mail x.number))) ≡ Some kind → HasWord lay kind
     by true pass waits kind is = absurd (cc)
     by false true true kind is = let same : kinds.Sense x.number ≡ kind = cc in subst (HasWord lay) same number
     by false true false kind is = let same : kinds.Run x.number ≡ kind = cc in subst (HasWord lay) same number

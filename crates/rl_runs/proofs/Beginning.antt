@@ -25,7 +25,7 @@ use Rattle.rl_runs.specs.State.{start_word, start_mind, start_mind_of}
 use Rattle.rl_runs.specs.Sound.{IsMindOf}
 use Rattle.rl_runs.proofs.Options.{from_map}
 
-holder_fits : (tables : Tables) (s : ℕ) (t : TrainId) → IsLine tables → holder_of tables s ≡ Some t → t.0 < 32
+pub holder_fits : (tables : Tables) (s : ℕ) (t : TrainId) → IsLine tables → holder_of tables s ≡ Some t → t.0 < 32
 holder_fits tables s t line is =
     let found = from_map (λ (x : TrainTable). x.number) (find (λ (x : TrainTable). x.first.0 == s) tables.trains) t is in
     let place : ℕ = position_or_len (λ (x : TrainTable). x.first.0 == s) tables.trains in

@@ -41,7 +41,7 @@ pub record StepsKeep : Type 0 where
   pub trains : (lay : Layout) (table : TrainTable) (mind : TrainMind) (kind : WordKind) (payload new : ℕ) (after : TrainMind) → IsTrainOn lay table mind → train_step table mind kind payload ≡ Some (new, after) → KeepsTrain lay table mind kind payload new after
   pub tracks : (lay : Layout) (t : TrainId) (mind : TrackMind) (kind : WordKind) (payload new : ℕ) (after : TrackMind) → t.0 < lay.trains → IsTrackMind mind → track_step t mind kind payload ≡ Some (new, after) → KeepsTrack lay t mind kind payload new after
   pub boxes : (lay : Layout) (b : BoxTable) (mind : BoxMind) (kind : WordKind) (payload new : ℕ) (after : BoxMind) → IsAtWord lay b mind kind → box_step b mind kind payload ≡ Some (new, after) → KeepsBox lay b mind kind payload new after
-  pub machines : (lay : Layout) (b : BoxId) (mind : MachineMind) (kind : WordKind) (payload new : ℕ) (after : MachineMind) → b.0 < lay.boxes → machine_step b mind kind payload ≡ Some (new, after) → KeepsMachine lay b kind payload new
+  pub machines : (lay : Layout) (b : BoxId) (mind : MachineMind) (kind : WordKind) (payload new : ℕ) (after : MachineMind) → b.0 < lay.boxes → machine_step b mind kind payload ≡ Some (new, after) → KeepsMachine lay b mind kind payload new after
 
 -- what a step of the node keeps to, on the word of this kind
 record Keeps (tables : Tables) (node : NodeKind) (kind : WordKind) (payload : ℕ) (made : ℕ × Mind) : Type 0 where

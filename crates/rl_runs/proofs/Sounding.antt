@@ -99,6 +99,28 @@ event_sound laws tables k c e line room sound fits =
         ];
     }
 
+-- the minds alone, after a run of any length
+abbrev pub AreMinded : Tables → CoreState → Type 0
+AreMinded tables c = (n : ℕ) (node : NodeKind) → node_at (layout_of tables) n ≡ Some node → IsMindOf tables node (c.minds n)
+
+event_minded : StepsKeep → (tables : Tables) (c : CoreState) (e : Event) → IsLine tables → AreMinded tables c → Fits tables c e → AreMinded tables (after tables c e)
+event_minded laws tables c e line minded fits =
+    let made : IsMade tables c e = fits_made tables c e fits in
+    let kept = step_keeps laws tables e.node.0 e.word.0 (payload_in e.was) (c.minds e.node.0) made.made line (minded e.node.0) made.step in
+    λ n at_n at.
+      elim (cases_eq n e.node.0) [
+        | inl same ↦
+          let here : node_at (layout_of tables) e.node.0 ≡ Some at_n = rw (← same) at in
+          let as_one : kept.node ≡ at_n = same_some (node_at (layout_of tables) e.node.0) kept.node at_n kept.at here in
+          rw (same, put_same c.minds e.node.0 (mind_after tables c e), made.mind, ← as_one) kept.mind
+        | inr other ↦ rw (put_other c.minds e.node.0 (mind_after tables c e) n other) (minded n at_n at)
+      ]
+
+pub runs_minded : StepsKeep → (tables : Tables) (tries : ℕ) (events : List Event) → IsLine tables → tries ≤ 1000 → IsRun tables tries events → AreMinded tables (state tables tries events)
+runs_minded laws tables tries [] line few run = λ n node at. start_minds tables tries n node few at
+runs_minded laws tables tries (e ∷ earlier) line few run =
+    event_minded laws tables (state tables tries earlier) e line (runs_minded laws tables tries earlier line few run.0) run.1
+
 pub runs_sound : StepsKeep → (tables : Tables) (tries : ℕ) (events : List Event) → IsLine tables → tries ≤ 1000 → length events < 2 ^ 32 → IsRun tables tries events → IsSound tables (length events) (state tables tries events)
 runs_sound laws tables tries [] line few room run = start_sound tables tries line few
 runs_sound laws tables tries (e ∷ earlier) line few room run =

@@ -42,10 +42,11 @@ use Rattle.rl_runs.specs.declared.mind.Mind.TheVariants.{Train, Track, Box, Mach
 use Rattle.rl_protocol.specs.State.{State, put, put_at}
 use Rattle.rl_protocol.specs.Steps.{Step, Fits, next}
 use Rattle.rl_protocol.specs.Steps.Step.{take as take_label, grant as grant_label, refuse as refuse_label, release as release_label, lock_now as lock_now_label, lock_ask as lock_ask_label, lock_moved as lock_moved_label, unlock as unlock_label, say_yes as say_yes_label, say_no as say_no_label, busy as busy_label, throw as throw_label, settle as settle_label}
-use Rattle.rl_safety.specs.Railway.{line_of}
+use Rattle.rl_protocol.specs.TableLine.{line_of}
 use Rattle.rl_safety.specs.Reading.{holder_of}
 use Rattle.rl_safety.specs.Effects.{with_mind, with_word}
-use Rattle.rl_safety.specs.Moves.{arm_move, resv_move, segment_of}
+use Rattle.rl_safety.specs.Railway.{segment_of}
+use Rattle.rl_safety.specs.Moves.{arm_move, resv_move}
 use Rattle.rl_safety.specs.Labels.{IsLabel, Says}
 use Rattle.rl_safety.proofs.Words.{resv_with}
 

@@ -41,7 +41,7 @@ payload_read tables c kind w was at word =
     let got : slice_index_or c.words w 0 ≡ was = get_or_from_slice_get c.words w was 0 word in
     rw (has_word-true (layout_of tables) kind is.0, is.1, got) refl
 
-payload_of_stamped : (stamp payload : ℕ) → payload < 2 ^ 32 → payload_in (stamped stamp payload) ≡ payload
+pub payload_of_stamped : (stamp payload : ℕ) → payload < 2 ^ 32 → payload_in (stamped stamp payload) ≡ payload
 payload_of_stamped stamp payload small =
     let rest : (payload + stamp * 2 ^ 32) % 2 ^ 32 ≡ payload = omega arith in
     let one : (payload + stamp * 2 ^ 32) / 1 ≡ payload + stamp * 2 ^ 32 = omega arith in

@@ -31,7 +31,8 @@ use Rattle.rl_protocol.specs.State.{State, put}
 use Rattle.rl_protocol.specs.Steps as steps
 use Rattle.rl_protocol.specs.Steps.{Step, Fits, next}
 use Rattle.rl_protocol.specs.Steps.Step.{post as post_label, hear_yes as hear_yes_label, hear_no as hear_no_label, go as go_label, quiet as quiet_label, enter as enter_label, head as head_label, leave as leave_label, tail as tail_label}
-use Rattle.rl_safety.specs.Railway.{line_of, row_at}
+use Rattle.rl_protocol.specs.TableLine.{line_of}
+use Rattle.rl_safety.specs.Railway.{row_at}
 use Rattle.rl_safety.specs.Labels.{IsLabel, Says}
 
 -- a train of the tables, as the state has it

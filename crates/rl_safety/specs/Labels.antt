@@ -11,7 +11,7 @@ use Rattle.rl_protocol.specs.State.{State}
 use Rattle.rl_protocol.specs.Steps.{Step, Fits, next}
 use Rattle.rl_protocol.specs.StepMoves.{move_of}
 use Rattle.rl_protocol.specs.Nodes.{node_of}
-use Rattle.rl_safety.specs.Railway.{line_of}
+use Rattle.rl_protocol.specs.TableLine.{line_of}
 use Rattle.rl_safety.specs.Reading.{holder_of}
 use Rattle.rl_safety.specs.Effects.{with_mind, with_word}
 use Rattle.rl_safety.specs.Moves.{word_move}

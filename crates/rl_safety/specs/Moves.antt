@@ -27,11 +27,7 @@ use Rattle.rl_tables.specs.declared.table.Tables.{Tables}
 use Rattle.rl_tables.specs.Kept.{line_kind}
 use Rattle.rl_tables.specs.Starts.{layout_of}
 use Rattle.rl_runs.specs.Numbers.{word_at}
-use Rattle.rl_safety.specs.Railway.{segment_id, segment_id_at, row_at}
-
--- the segment at an arm of a box
-abbrev pub segment_of : Tables → BoxId → ℕ → SegId
-segment_of tables b x = unwrap_or (segment_id_at tables b.0 x) (segment_id 0)
+use Rattle.rl_safety.specs.Railway.{row_at, segment_of}
 
 -- an arm that was free and is held was reserved, and one that was held and is free was released
 abbrev pub arm_move : Tables → BoxId → ℕ → Option TrainId → Option TrainId → Option Move

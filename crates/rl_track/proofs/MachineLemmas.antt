@@ -72,7 +72,7 @@ kept : (lay : Layout) (b : BoxId) (mind : MachineMind) (word next : Word) (after
 kept lay b _ _ _ _ there (throw mind p) fits = record { target = refl; owner = refl; has_word = there; kind = refl; fits = fits }
 kept lay b _ _ _ _ there (settle mind p) fits = record { target = refl; owner = refl; has_word = there; kind = refl; fits = fits }
 
-pub keeps : ReadsWords → PacksSmall → OwnsWords → (lay : Layout) (b : BoxId) (mind : MachineMind) (kind : WordKind) (payload new : ℕ) (after : MachineMind) → b.0 < lay.boxes → machine_step b mind kind payload ≡ Some (new, after) → KeepsMachine lay b kind payload new
+pub keeps : ReadsWords → PacksSmall → OwnsWords → (lay : Layout) (b : BoxId) (mind : MachineMind) (kind : WordKind) (payload new : ℕ) (after : MachineMind) → b.0 < lay.boxes → machine_step b mind kind payload ≡ Some (new, after) → KeepsMachine lay b mind kind payload new after
 keeps reads small owns lay b mind kind payload new after there e =
     let p = step_front b mind kind payload new after e in
     let r = reads kind payload p.seen p.reads in
@@ -84,7 +84,10 @@ keeps reads small owns lay b mind kind payload new after there e =
     record {
       target = sym r.kind_is ∙ k.target;
       owned = subst by_kind r.kind_is (subst by_node k.owner (subst by_payload r.packed (owns lay p.seen k.has_word node r.fits)));
+      seen = p.seen;
       left = p.left;
+      saw = p.reads;
+      step = p.step;
       reads = record { kind_is = k.kind ∙ r.kind_is; fits = k.fits; packed = p.packs };
       small = subst (λ n. n < 2 ^ 32) p.packs (small p.left k.fits);
     }

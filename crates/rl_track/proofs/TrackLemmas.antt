@@ -142,7 +142,10 @@ keeps reads small owns lay t mind kind payload new after there h e =
     record {
       target = sym r.kind_is ∙ k.target;
       owned = subst by_kind r.kind_is (subst by_node k.owner (subst by_payload r.packed (owns lay p.seen k.has_word node r.fits)));
+      seen = p.seen;
       left = p.left;
+      saw = p.reads;
+      step = p.step;
       reads = record { kind_is = k.kind ∙ r.kind_is; fits = k.fits; packed = p.packs };
       small = subst (λ n. n < 2 ^ 32) p.packs (small p.left k.fits);
       after_is = k.after_is;

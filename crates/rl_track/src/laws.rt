@@ -48,7 +48,7 @@ pub fn machine_lines()
 pub fn machine_steps()
     ensures { (lay : Layout) (b : BoxId) (mind : MachineMind) (kind : WordKind) (payload new : ℕ) (after : MachineMind)
         → b.0 < lay.boxes → machine_step b mind kind payload ≡ Some (new, after)
-        → KeepsMachine lay b kind payload new }
+        → KeepsMachine lay b mind kind payload new after }
 {
     // What is known of any word, for the proof.
     words();

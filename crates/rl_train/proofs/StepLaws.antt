@@ -143,7 +143,10 @@ keeps same reads small owns lay table mind kind payload new after on e =
     record {
       target = looks table mind p.seen p.left after p.step ∙ ap Some r.kind_is;
       owned = subst by_kind r.kind_is (subst by_node own (subst by_payload r.packed (owns lay p.seen word node r.fits)));
+      seen = p.seen;
       left = p.left;
+      saw = p.reads;
+      step = p.step;
       reads = record { kind_is = same_kind table mind p.seen p.left after p.step ∙ r.kind_is; fits = stays.0; packed = p.packs };
       small = subst (λ n. n < 2 ^ 32) p.packs (small p.left stays.0);
       after_is = stays.1;
