@@ -187,7 +187,7 @@ word_leaves_boxes s (Run t v) = refl
 word_leaves_boxes s (Sense t v) = refl
 
 -- states are equal whose parts are
-same_state : (a b : State) → a.trains ≡ b.trains → a.tracks ≡ b.tracks → a.boxes ≡ b.boxes → a.resv ≡ b.resv → a.lock ≡ b.lock → a.mail ≡ b.mail → a.run ≡ b.run → a.sense ≡ b.sense → a ≡ b
+pub same_state : (a b : State) → a.trains ≡ b.trains → a.tracks ≡ b.tracks → a.boxes ≡ b.boxes → a.resv ≡ b.resv → a.lock ≡ b.lock → a.mail ≡ b.mail → a.run ≡ b.run → a.sense ≡ b.sense → a ≡ b
 same_state a b e1 e2 e3 e4 e5 e6 e7 e8 =
     let build = λ (t : ℕ → TrainMind) (k : ℕ → TrackMind) (x : ℕ → BoxMind) (r : ℕ → ℕ → Option TrainId) (l : ℕ → LockWord) (m : ℕ → MailWord) (u : ℕ → RunWord) (v : ℕ → SenseWord).
       let made : State = record { trains = t; tracks = k; boxes = x; resv = r; lock = l; mail = m; run = u; sense = v } in made in

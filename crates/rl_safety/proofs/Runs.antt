@@ -33,7 +33,7 @@ use Rattle.rl_runs.proofs.Options.{from_then}
 use Rattle.rl_runs.proofs.Sounding.{AreMinded, runs_minded}
 use Rattle.rl_protocol.specs.Agreement.{Agrees, IsPassing, IsStanding, is_passing}
 use Rattle.rl_protocol.specs.Jobs.{passes}
-use Rattle.rl_protocol.specs.Line.{Line}
+use Rattle.rl_protocol.specs.Line.{Line, IsConsistent}
 use Rattle.rl_protocol.specs.Nodes.{node_of}
 use Rattle.rl_protocol.specs.Runs as protocol
 use Rattle.rl_protocol.specs.State.{State, start}
@@ -46,6 +46,7 @@ use Rattle.rl_safety.specs.Reading.{read, payload_of}
 use Rattle.rl_safety.proofs.BoxLabels.{KeepsArms}
 use Rattle.rl_safety.proofs.Events.{ReadsWords, IsStepAt, IsEventStep, from_step, train_event, track_event, box_event, machine_event}
 use Rattle.rl_safety.proofs.Payloads.{payload_read}
+use Rattle.rl_safety.proofs.Started.{ReadsValues, start_read}
 
 -- the laws of the crates below, by which an event is a step
 pub record Laws : Type 0 where
@@ -145,3 +146,25 @@ pub record IsStepped (tables : Tables) (tries : ℕ) (events : List Event) : Typ
   pub state : read tables tries (runs.state tables tries events) ≡ protocol.state_after (line_of tables) tries steps
   pub moves : moves_of tables events ≡ protocol.moves_of (line_of tables) steps
   pub count : length events ≡ length steps
+
+-- what is so of steps, by the protocol's own law
+abbrev pub Agreeing : Type 0
+Agreeing = (line : Line) (tries : ℕ) (steps : List Step) → IsConsistent line → protocol.IsRun line tries steps → Agrees line tries (protocol.state_after line tries steps)
+
+pub run_stepped : Laws → ReadsValues → Agreeing → (tables : Tables) (tries : ℕ) (events : List Event) → IsLine tables → IsConsistent (line_of tables) → tries ≤ 1000 → runs.IsRun tables tries events → IsStepped tables tries events
+run_stepped laws values agreeing tables tries [] line fine few run =
+    record { steps = []; run = tt; state = start_read values tables tries line; moves = refl; count = refl }
+run_stepped laws values agreeing tables tries (e ∷ earlier) line fine few run =
+    let before = run_stepped laws values agreeing tables tries earlier line fine few run.0 in
+    let agrees_there = agreeing (line_of tables) tries before.steps fine before.run in
+    let agrees : Agrees (line_of tables) tries (read tables tries (runs.state tables tries earlier)) = subst (Agrees (line_of tables) tries) (sym before.state) agrees_there in
+    let minded = runs_minded laws.steps tables tries earlier line few run.0 in
+    let made = event_step laws tables tries (runs.state tables tries earlier) e line minded agrees run.1 in
+    let F : State → Type 0 = λ s. Fits (line_of tables) s made.step in
+    record {
+      steps = made.step ∷ before.steps;
+      run = (before.run, subst F before.state made.fits);
+      state = made.leaves ∙ ap (λ s. next (line_of tables) s made.step) before.state;
+      moves = rw (before.moves, made.move) refl;
+      count = ap suc before.count;
+    }
