@@ -1,8 +1,13 @@
 -- Every run of events is a run of steps of the protocol.
 use Rattle.std.proofs.Common.{◌≡◌, ◌≢◌, ◌⊎◌, ℕ, zero, suc, ◌+◌, ◌*◌, ◌^◌, ◌<◌, ◌≤◌, ◌==◌, nat_lt, Bool, true, false, not, ◌&&◌, ◌||◌, List, [], ◌∷◌, ◌++◌, length, slice_get, Option, Some, None, option_map, option_and_then, refl, sym, ap, ◌∙◌, subst, inl, inr, if◌then◌else◌, arith}
-use Rattle.std.specs.Prelude.{unwrap_or, option_to_list}
+use Rattle.std.specs.Prelude.{unwrap_or, option_to_list, cond, count_by}
+use Rattle.std.proofs.lemmas.List.Sums.{sum_by-append}
 use Rattle.std.specs.Option.{option_map_or}
+use Rattle.std.proofs.lemmas.Bool.{cases_eq, ne_eqb}
+use Rattle.std.proofs.lemmas.Bool.Decides.{nat_tests}
+use Rattle.rl_base.specs.declared.ids.BoxId.{BoxId}
 use Rattle.rl_base.specs.declared.ids.TrainId.{TrainId}
+use Rattle.rl_base.specs.declared.layout.Layout.{Layout}
 use Rattle.rl_base.specs.declared.layout.NodeKind.{NodeKind}
 use Rattle.rl_base.specs.declared.layout.NodeKind.TheVariants as nodes
 use Rattle.rl_base.specs.declared.layout.WordKind.{WordKind}
@@ -29,9 +34,10 @@ use Rattle.rl_runs.specs.Run as runs
 use Rattle.rl_runs.proofs.Keeping.{StepsKeep}
 use Rattle.rl_runs.proofs.Made.{IsMade, fits_made}
 use Rattle.rl_runs.proofs.Numbering.{node_at-some, word_at-some}
-use Rattle.rl_runs.proofs.Options.{from_then}
+use Rattle.rl_runs.proofs.Options.{from_then, same_some}
 use Rattle.rl_runs.proofs.Sounding.{AreMinded, runs_minded}
 use Rattle.rl_protocol.specs.Agreement.{Agrees, IsPassing, IsStanding, is_passing}
+use Rattle.rl_protocol.specs.Counts.{same_node, events_of}
 use Rattle.rl_protocol.specs.Jobs.{passes}
 use Rattle.rl_protocol.specs.Line.{Line, IsConsistent}
 use Rattle.rl_protocol.specs.Nodes.{node_of}
@@ -40,6 +46,7 @@ use Rattle.rl_protocol.specs.State.{State, start}
 use Rattle.rl_protocol.specs.StepMoves as moves
 use Rattle.rl_protocol.specs.Steps.{Step, Fits, next}
 use Rattle.rl_protocol.specs.TableLine.{line_of, no_row}
+use Rattle.rl_safety.specs.Counts.{events_by}
 use Rattle.rl_safety.specs.Moves.{move_of, moves_of}
 use Rattle.rl_safety.specs.Railway.{row_at}
 use Rattle.rl_safety.specs.Reading.{read, payload_of}
@@ -146,6 +153,55 @@ pub record IsStepped (tables : Tables) (tries : ℕ) (events : List Event) : Typ
   pub state : read tables tries (runs.state tables tries events) ≡ protocol.state_after (line_of tables) tries steps
   pub moves : moves_of tables events ≡ protocol.moves_of (line_of tables) steps
   pub count : length events ≡ length steps
+  pub by : (n : ℕ) (node : NodeKind) → node_at (layout_of tables) n ≡ Some node → events_by n events ≡ events_of node steps
+
+-- a count over a list with one more at its head
+count_one : {X : Type 0} (p : X → Bool) (x : X) (xs : List X) → count_by p (x ∷ xs) ≡ cond (p x) 1 0 + count_by p xs
+count_one p x xs = sum_by-append (λ y. cond (p y) 1 0) (x ∷ []) xs ∙ ap (λ n. n + count_by p xs) (omega arith)
+
+-- a node is that of a number, or another
+same_itself : (node : NodeKind) → same_node node node ≡ true
+same_itself (nodes.Train t) = grind (arith, nat_tests)
+same_itself (nodes.Track t) = grind (arith, nat_tests)
+same_itself (nodes.Box b) = grind (arith, nat_tests)
+same_itself (nodes.Machine b) = grind (arith, nat_tests)
+
+train_apart : (t u : TrainId) → (t.0 ≡ u.0 → ⊥) → (t.0 == u.0) ≡ false
+train_apart t u differ = ne_eqb t.0 u.0 differ
+
+same_apart : (x y : NodeKind) → (x ≡ y → ⊥) → same_node x y ≡ false
+same_apart (nodes.Train t) (nodes.Train u) differ = ne_eqb t.0 u.0 (λ same. differ (ap (λ (n : ℕ). let made : TrainId = record { 0 = n } in nodes.Train made) same))
+same_apart (nodes.Track t) (nodes.Track u) differ = ne_eqb t.0 u.0 (λ same. differ (ap (λ (n : ℕ). let made : TrainId = record { 0 = n } in nodes.Track made) same))
+same_apart (nodes.Box b) (nodes.Box c) differ = ne_eqb b.0 c.0 (λ same. differ (ap (λ (n : ℕ). let made : BoxId = record { 0 = n } in nodes.Box made) same))
+same_apart (nodes.Machine b) (nodes.Machine c) differ = ne_eqb b.0 c.0 (λ same. differ (ap (λ (n : ℕ). let made : BoxId = record { 0 = n } in nodes.Machine made) same))
+same_apart (nodes.Train t) (nodes.Track u) differ = refl
+same_apart (nodes.Train t) (nodes.Box b) differ = refl
+same_apart (nodes.Train t) (nodes.Machine b) differ = refl
+same_apart (nodes.Track t) (nodes.Train u) differ = refl
+same_apart (nodes.Track t) (nodes.Box b) differ = refl
+same_apart (nodes.Track t) (nodes.Machine b) differ = refl
+same_apart (nodes.Box b) (nodes.Train t) differ = refl
+same_apart (nodes.Box b) (nodes.Track t) differ = refl
+same_apart (nodes.Box b) (nodes.Machine c) differ = refl
+same_apart (nodes.Machine b) (nodes.Train t) differ = refl
+same_apart (nodes.Machine b) (nodes.Track t) differ = refl
+same_apart (nodes.Machine b) (nodes.Box c) differ = refl
+
+by_number : (lay : Layout) (m n : ℕ) (x y : NodeKind) → node_at lay m ≡ Some x → node_at lay n ≡ Some y → same_node x y ≡ (m == n)
+by_number lay m n x y at_m at_n =
+    elim (cases_eq m n) [
+      | inl same ↦
+        let test : (n == n) ≡ true = grind (arith, nat_tests) in
+        let here : node_at lay n ≡ Some x = subst (λ (k : ℕ). node_at lay k ≡ Some x) same at_m in
+        let one : x ≡ y = same_some (node_at lay n) x y here at_n in
+        rw (same, test, one) (same_itself y)
+      | inr other ↦
+        let apart : x ≡ y → ⊥ = λ one.
+          let m_is : node_number lay x ≡ m = (node_at-some lay m x at_m).1 in
+          let n_is : node_number lay y ≡ n = (node_at-some lay n y at_n).1 in
+          other (cc) in
+        same_apart x y apart ∙ sym (ne_eqb m n other)
+    ]
 
 -- what is so of steps, by the protocol's own law
 abbrev pub Agreeing : Type 0
@@ -153,7 +209,7 @@ Agreeing = (line : Line) (tries : ℕ) (steps : List Step) → IsConsistent line
 
 pub run_stepped : Laws → ReadsValues → Agreeing → (tables : Tables) (tries : ℕ) (events : List Event) → IsLine tables → IsConsistent (line_of tables) → tries ≤ 1000 → runs.IsRun tables tries events → IsStepped tables tries events
 run_stepped laws values agreeing tables tries [] line fine few run =
-    record { steps = []; run = tt; state = start_read values tables tries line; moves = refl; count = refl }
+    record { steps = []; run = tt; state = start_read values tables tries line; moves = refl; count = refl; by = λ n node at. refl }
 run_stepped laws values agreeing tables tries (e ∷ earlier) line fine few run =
     let before = run_stepped laws values agreeing tables tries earlier line fine few run.0 in
     let agrees_there = agreeing (line_of tables) tries before.steps fine before.run in
@@ -167,4 +223,8 @@ run_stepped laws values agreeing tables tries (e ∷ earlier) line fine few run 
       state = made.leaves ∙ ap (λ s. next (line_of tables) s made.step) before.state;
       moves = rw (before.moves, made.move) refl;
       count = ap suc before.count;
+      by = λ n node at.
+        let test : same_node (node_of made.step) node ≡ (e.node.0 == n) = rw made.by (by_number (layout_of tables) e.node.0 n made.node node made.at at) in
+        let counts : cond (e.node.0 == n) 1 0 + events_by n earlier ≡ cond (same_node (node_of made.step) node) 1 0 + events_of node before.steps = rw (before.by n node at, test) refl in
+        count_one (λ (x : Event). x.node.0 == n) e earlier ∙ counts ∙ sym (count_one (λ (x : Step). same_node (node_of x) node) made.step before.steps);
     }

@@ -3,3 +3,5 @@ pub mod Reading
 pub mod Effects
 pub mod Moves
 pub mod Labels
+pub mod Counts
+pub mod World
