@@ -1,16 +1,14 @@
 -- The state read at the start is the start of the protocol.
-use Rattle.std.proofs.Common.{◌≡◌, ◌⊎◌, ℕ, zero, suc, ◌+◌, ◌*◌, ◌^◌, ◌%◌, ◌/◌, ◌<◌, ◌≤◌, ◌==◌, nat_lt, Bool, true, false, List, [], ◌∷◌, length, slice_get, slice_index_or, Option, Some, None, option_map, option_and_then, refl, sym, ap, ◌∙◌, subst, inl, inr, if◌then◌else◌, arith}
+use Rattle.std.proofs.Common.{◌≡◌, ◌⊎◌, ℕ, zero, suc, ◌^◌, ◌%◌, ◌/◌, ◌<◌, ◌≤◌, nat_lt, true, false, slice_get, slice_index_or, Option, Some, None, option_map, option_and_then, refl, sym, ap, ◌∙◌, inl, inr, arith}
 use Rattle.std.specs.Prelude.{unwrap_or}
 use Rattle.std.specs.Option.{option_map_or}
 use Rattle.std.proofs.Math.Path.{fun_ext}
 use Rattle.std.proofs.lemmas.Bool.{cases_lt}
 use Rattle.std.proofs.lemmas.Bool.Decides.{nat_tests}
 use Rattle.std.proofs.lemmas.Option.{slice_get_past, get_or_from_slice_get}
-use Rattle.rl_base.specs.declared.ids.BoxId.{BoxId}
 use Rattle.rl_base.specs.declared.ids.SegId.{SegId}
 use Rattle.rl_base.specs.declared.ids.TrainId.{TrainId}
-use Rattle.rl_base.specs.declared.kind.Side.{Side}
-use Rattle.rl_base.specs.declared.kind.Side.TheVariants.{Left, Right}
+use Rattle.rl_base.specs.declared.kind.Side.TheVariants.{Left}
 use Rattle.rl_base.specs.declared.layout.Layout.{Layout}
 use Rattle.rl_base.specs.declared.layout.NodeKind.TheVariants as nodes
 use Rattle.rl_base.specs.declared.layout.WordKind.{WordKind}
@@ -27,27 +25,22 @@ use Rattle.rl_words.specs.declared.sense.SenseWord.{SenseWord}
 use Rattle.rl_words.specs.declared.sense.SenseWord.TheVariants.{Quiet}
 use Rattle.rl_words.specs.Lock.{FitsLock, packed_lock}
 use Rattle.rl_words.specs.Mail.{FitsMail, packed_mail}
-use Rattle.rl_words.specs.Resv.{FitsArm, FitsResv, packed_resv, arm_in}
+use Rattle.rl_words.specs.Resv.{FitsArm, FitsResv, packed_resv}
 use Rattle.rl_words.specs.Run.{FitsRun, packed_run}
 use Rattle.rl_words.specs.Sense.{FitsSense, packed_sense}
 use Rattle.rl_words.specs.Readings.{read_resv, read_lock, read_mail, read_run, read_sense}
 use Rattle.rl_words.specs.Stamps.{payload_in}
 use Rattle.rl_tables.specs.declared.table.BoxTable.{BoxTable}
 use Rattle.rl_tables.specs.declared.table.Tables.{Tables}
-use Rattle.rl_tables.specs.Kept.{IsLine, line_segment}
+use Rattle.rl_tables.specs.Kept.{IsLine}
 use Rattle.rl_tables.specs.Starts.{layout_of, holder_of, arm_holder, start_resv, start_lock, start_payload}
-use Rattle.rl_tables.specs.Tables.{segment_in, segment_number}
-use Rattle.rl_train.specs.Mind.{start_train}
-use Rattle.rl_box.specs.Mind.{start_box}
-use Rattle.rl_track.specs.Track.{start_track}
-use Rattle.rl_runs.specs.declared.mind.Mind.{Mind}
-use Rattle.rl_runs.specs.Numbers.{node_at, word_at, train, box}
+use Rattle.rl_tables.specs.Tables.{segment_number}
+use Rattle.rl_runs.specs.Numbers.{node_at, train, box}
 use Rattle.rl_runs.specs.State as cores
 use Rattle.rl_runs.specs.State.{start_mind, start_mind_of, start_word, start_words}
 use Rattle.rl_runs.proofs.Beginning.{start_fits, holder_fits}
 use Rattle.rl_runs.proofs.Numbering.{node_at-number, word_at-number}
 use Rattle.rl_runs.proofs.Starts.{start_words-get}
-use Rattle.rl_protocol.specs.Line.{Line}
 use Rattle.rl_protocol.specs.State as protocol
 use Rattle.rl_protocol.specs.State.{State}
 use Rattle.rl_protocol.specs.TableLine.{line_of}
@@ -64,7 +57,7 @@ pub record ReadsValues : Type 0 where
   pub sense : (v : SenseWord) → FitsSense v → read_sense (packed_sense v) ≡ Some v
 
 within_or_not : (n k : ℕ) → ((nat_lt n k ≡ true) × (n < k)) ⊎ ((nat_lt n k ≡ false) × (k ≤ n))
-within_or_not n k = elim (cases_lt n k) [ | inl h ↦ inl (grind (arith, nat_tests), h) | inr h ↦ inr (grind (arith, nat_tests), h) ]
+within_or_not n k = elim (cases_lt n k) [ inl h ↦ inl (grind (arith, nat_tests), h) | inr h ↦ inr (grind (arith, nat_tests), h) ]
 
 -- minds
 trains_start : (tables : Tables) (tries : ℕ) → train_of tables tries (cores.start tables tries) ≡ (protocol.start (line_of tables) tries).trains
@@ -78,9 +71,9 @@ tracks_start : (tables : Tables) (tries : ℕ) → track_of tables (cores.start 
 tracks_start tables tries =
     fun_ext (λ t. elim (within_or_not t (layout_of tables).trains) [
       | inl there ↦
-        let at : node_at (layout_of tables) (node_number (layout_of tables) (nodes.Track (train t))) ≡ Some (nodes.Track (train t)) = node_at-number (layout_of tables) (nodes.Track (train t)) there.1 in
-        let mind : start_mind tables tries (node_number (layout_of tables) (nodes.Track (train t))) ≡ start_mind_of tries (Some (nodes.Track (train t))) = ap (start_mind_of tries) at in
-        rw there.0 (ap track_mind mind)
+          let at : node_at (layout_of tables) (node_number (layout_of tables) (nodes.Track (train t))) ≡ Some (nodes.Track (train t)) = node_at-number (layout_of tables) (nodes.Track (train t)) there.1 in
+          let mind : start_mind tables tries (node_number (layout_of tables) (nodes.Track (train t))) ≡ start_mind_of tries (Some (nodes.Track (train t))) = ap (start_mind_of tries) at in
+          rw there.0 (ap track_mind mind)
       | inr past ↦ rw past.0 refl
     ])
 
@@ -88,9 +81,9 @@ boxes_start : (tables : Tables) (tries : ℕ) → box_of tables (cores.start tab
 boxes_start tables tries =
     fun_ext (λ b. elim (within_or_not b (layout_of tables).boxes) [
       | inl there ↦
-        let at : node_at (layout_of tables) (node_number (layout_of tables) (nodes.Box (box b))) ≡ Some (nodes.Box (box b)) = node_at-number (layout_of tables) (nodes.Box (box b)) there.1 in
-        let mind : start_mind tables tries (node_number (layout_of tables) (nodes.Box (box b))) ≡ start_mind_of tries (Some (nodes.Box (box b))) = ap (start_mind_of tries) at in
-        rw there.0 (ap box_mind mind)
+          let at : node_at (layout_of tables) (node_number (layout_of tables) (nodes.Box (box b))) ≡ Some (nodes.Box (box b)) = node_at-number (layout_of tables) (nodes.Box (box b)) there.1 in
+          let mind : start_mind tables tries (node_number (layout_of tables) (nodes.Box (box b))) ≡ start_mind_of tries (Some (nodes.Box (box b))) = ap (start_mind_of tries) at in
+          rw there.0 (ap box_mind mind)
       | inr past ↦ rw past.0 refl
     ])
 
@@ -128,9 +121,9 @@ mails_start laws tables tries line =
   where
     zero_of : (t : ℕ) → payload_of tables (cores.start tables tries) (kinds.Mail (train t)) ≡ packed_mail Empty
     zero_of t = elim (within_or_not t (layout_of tables).trains) [
-        | inl there ↦ payload_start tables tries (kinds.Mail (train t)) line there.0 there.1
-        | inr past ↦ payload_absent tables tries (kinds.Mail (train t)) past.0
-      ]
+      | inl there ↦ payload_start tables tries (kinds.Mail (train t)) line there.0 there.1
+      | inr past ↦ payload_absent tables tries (kinds.Mail (train t)) past.0
+    ]
 
 runs_start : ReadsValues → (tables : Tables) (tries : ℕ) → IsLine tables → run_in tables (cores.start tables tries) ≡ (protocol.start (line_of tables) tries).run
 runs_start laws tables tries line =
@@ -138,9 +131,9 @@ runs_start laws tables tries line =
   where
     zero_of : (t : ℕ) → payload_of tables (cores.start tables tries) (kinds.Run (train t)) ≡ packed_run (Clear 0)
     zero_of t = elim (within_or_not t (layout_of tables).trains) [
-        | inl there ↦ payload_start tables tries (kinds.Run (train t)) line there.0 there.1
-        | inr past ↦ payload_absent tables tries (kinds.Run (train t)) past.0
-      ]
+      | inl there ↦ payload_start tables tries (kinds.Run (train t)) line there.0 there.1
+      | inr past ↦ payload_absent tables tries (kinds.Run (train t)) past.0
+    ]
 
 senses_start : ReadsValues → (tables : Tables) (tries : ℕ) → IsLine tables → sense_in tables (cores.start tables tries) ≡ (protocol.start (line_of tables) tries).sense
 senses_start laws tables tries line =
@@ -148,9 +141,9 @@ senses_start laws tables tries line =
   where
     zero_of : (t : ℕ) → payload_of tables (cores.start tables tries) (kinds.Sense (train t)) ≡ packed_sense (Quiet 0)
     zero_of t = elim (within_or_not t (layout_of tables).trains) [
-        | inl there ↦ payload_start tables tries (kinds.Sense (train t)) line there.0 there.1
-        | inr past ↦ payload_absent tables tries (kinds.Sense (train t)) past.0
-      ]
+      | inl there ↦ payload_start tables tries (kinds.Sense (train t)) line there.0 there.1
+      | inr past ↦ payload_absent tables tries (kinds.Sense (train t)) past.0
+    ]
 
 -- locks
 lock_start : ReadsValues → (tables : Tables) (o : Option BoxTable) → unwrap_or (read_lock (option_map_or (λ x. packed_lock (start_lock x)) o 0)) (Free Left) ≡ Free (option_map_or (λ (x : BoxTable). x.side) o Left)
@@ -161,11 +154,11 @@ locks_start : ReadsValues → (tables : Tables) (tries : ℕ) → IsLine tables 
 locks_start laws tables tries line =
     fun_ext (λ b. elim (within_or_not b (layout_of tables).boxes) [
       | inl there ↦
-        ap (λ n. unwrap_or (read_lock n) (Free Left)) (payload_start tables tries (kinds.Lock (box b)) line there.0 there.1)
+          ap (λ n. unwrap_or (read_lock n) (Free Left)) (payload_start tables tries (kinds.Lock (box b)) line there.0 there.1)
           ∙ lock_start laws tables (slice_get tables.boxes b)
       | inr past ↦
-        let absent : slice_get tables.boxes b ≡ None = slice_get_past tables.boxes b past.1 in
-        ap (λ n. unwrap_or (read_lock n) (Free Left)) (payload_absent tables tries (kinds.Lock (box b)) past.0)
+          let absent : slice_get tables.boxes b ≡ None = slice_get_past tables.boxes b past.1 in
+          ap (λ n. unwrap_or (read_lock n) (Free Left)) (payload_absent tables tries (kinds.Lock (box b)) past.0)
           ∙ (lock_start laws tables None ∙ ap (λ (o : Option BoxTable). Free (option_map_or (λ (x : BoxTable). x.side) o Left)) (sym absent))
     ])
 
@@ -209,17 +202,17 @@ resvs_start : ReadsValues → (tables : Tables) (tries : ℕ) → IsLine tables 
 resvs_start laws tables tries line =
     fun_ext (λ b. fun_ext (λ i. elim (within_or_not b (layout_of tables).boxes) [
       | inl there ↦
-        ap (λ n. reading.holder_of (read_resv n) i) (payload_start tables tries (kinds.Resv (box b)) line there.0 there.1)
+          ap (λ n. reading.holder_of (read_resv n) i) (payload_start tables tries (kinds.Resv (box b)) line there.0 there.1)
           ∙ resv_start laws tables (slice_get tables.boxes b) i line
       | inr past ↦
-        let absent : slice_get tables.boxes b ≡ None = slice_get_past tables.boxes b past.1 in
-        ap (λ n. reading.holder_of (read_resv n) i) (payload_absent tables tries (kinds.Resv (box b)) past.0)
+          let absent : slice_get tables.boxes b ≡ None = slice_get_past tables.boxes b past.1 in
+          ap (λ n. reading.holder_of (read_resv n) i) (payload_absent tables tries (kinds.Resv (box b)) past.0)
           ∙ (resv_start laws tables None i line ∙ ap (λ (o : Option BoxTable). option_and_then (holder_of tables) (option_and_then (λ (x : BoxTable). segment_number x i) o)) (sym absent))
     ]))
 
 pub start_read : ReadsValues → (tables : Tables) (tries : ℕ) → IsLine tables → read tables tries (cores.start tables tries) ≡ protocol.start (line_of tables) tries
 start_read laws tables tries line =
     same_state (read tables tries (cores.start tables tries)) (protocol.start (line_of tables) tries)
-      (trains_start tables tries) (tracks_start tables tries) (boxes_start tables tries)
-      (resvs_start laws tables tries line) (locks_start laws tables tries line) (mails_start laws tables tries line)
-      (runs_start laws tables tries line) (senses_start laws tables tries line)
+    (trains_start tables tries) (tracks_start tables tries) (boxes_start tables tries)
+    (resvs_start laws tables tries line) (locks_start laws tables tries line) (mails_start laws tables tries line)
+    (runs_start laws tables tries line) (senses_start laws tables tries line)

@@ -5,3 +5,4 @@ pub mod Moves
 pub mod Labels
 pub mod Counts
 pub mod World
+pub mod Stepped

@@ -1,5 +1,4 @@
 -- The world of a core: what its words and the routes say of trains, segments and boxes.
-use Rattle.std.specs.Prelude.{ℕ}
 use Rattle.rl_model.specs.declared.network.NetworkPlan.{NetworkPlan}
 use Rattle.rl_model.specs.World.{World}
 use Rattle.rl_tables.specs.declared.table.Tables.{Tables}
