@@ -1,5 +1,5 @@
 -- Each step of a box and of its point machine is a step of the protocol.
-use Rattle.std.proofs.Common.{◌≡◌, ◌≢◌, ◌⊎◌, ℕ, zero, suc, ◌+◌, ◌<◌, ◌≤◌, ◌==◌, nat_lt, Bool, true, false, ◌&&◌, slice_get, Option, Some, None, option_map, refl, sym, ap, ◌∙◌, subst, inl, inr, if◌then◌else◌, arith}
+use Rattle.std.proofs.Common.{◌≡◌, ◌≢◌, ℕ, zero, suc, ◌<◌, ◌≤◌, ◌==◌, nat_lt, Bool, true, false, ◌&&◌, Option, Some, None, refl, sym, ap, ◌∙◌, subst, inl, inr, arith}
 use Rattle.std.proofs.Math.Path.{fun_ext}
 use Rattle.std.proofs.lemmas.Bool.{cases_eq, cases_lt, ne_eqb}
 use Rattle.std.proofs.lemmas.Bool.Decides.{nat_tests}
@@ -11,40 +11,32 @@ use Rattle.rl_base.specs.declared.kind.Kind.{Kind}
 use Rattle.rl_base.specs.declared.kind.Kind.TheVariants.{Buffer, Joint, Point, Crossing}
 use Rattle.rl_base.specs.declared.layout.Layout.{Layout}
 use Rattle.rl_base.specs.declared.layout.NodeKind.TheVariants as nodes
-use Rattle.rl_base.specs.Kind.{arms_of, arms_join, joining_side}
-use Rattle.rl_model.specs.declared.moves.Move.{Move}
+use Rattle.rl_base.specs.Kind.{arms_of}
 use Rattle.rl_model.specs.declared.moves.Move.TheVariants as moves
 use Rattle.rl_words.specs.declared.lock.LockWord.{LockWord}
-use Rattle.rl_words.specs.declared.lock.LockWord.TheVariants.{Free, Asked, Moving, Moved, Locked}
-use Rattle.rl_words.specs.declared.lock.Path.{Path}
+use Rattle.rl_words.specs.declared.lock.LockWord.TheVariants.{Locked}
 use Rattle.rl_words.specs.declared.mail.Letter.{Letter}
-use Rattle.rl_words.specs.declared.mail.MailWord.TheVariants as mails
 use Rattle.rl_words.specs.declared.resv.ResvWord.{ResvWord}
 use Rattle.rl_words.specs.Mail.{IsRefusable}
 use Rattle.rl_words.specs.Resv.{arm_in, with_arm}
 use Rattle.rl_words.specs.Word.{Word}
-use Rattle.rl_words.specs.Word.Word.{Resv, Lock, Mail, Run, Sense}
+use Rattle.rl_words.specs.Word.Word.{Resv}
 use Rattle.rl_tables.specs.declared.table.BoxTable.{BoxTable}
 use Rattle.rl_tables.specs.declared.table.Tables.{Tables}
-use Rattle.rl_box.specs.declared.mind.Answer.{Answer}
-use Rattle.rl_box.specs.declared.mind.Answer.TheVariants.{Yes, No}
+use Rattle.rl_box.specs.declared.mind.Answer.TheVariants.{No}
 use Rattle.rl_box.specs.declared.mind.BoxMind.{BoxMind}
-use Rattle.rl_box.specs.declared.mind.Work.{Work}
-use Rattle.rl_box.specs.declared.mind.Work.TheVariants.{Ready, Serve, Say}
+use Rattle.rl_box.specs.declared.mind.Work.TheVariants.{Say}
 use Rattle.rl_box.specs.Mind.{box_at, IsWork, IsLetterTo}
-use Rattle.rl_box.specs.Steps.{BoxStep, has_arms, connects, other_side, path_of}
+use Rattle.rl_box.specs.Steps.{BoxStep}
 use Rattle.rl_box.specs.Steps.BoxStep.{take, reserve, refuse, release, lock, ask, moved, unlock, say_yes, say_refused, say_barred, busy}
 use Rattle.rl_track.specs.declared.machine.MachineMind.{MachineMind}
 use Rattle.rl_track.specs.Machine.{MachineStep}
 use Rattle.rl_track.specs.Machine.MachineStep.{throw, settle}
-use Rattle.rl_runs.specs.declared.mind.Mind.{Mind}
-use Rattle.rl_runs.specs.declared.mind.Mind.TheVariants.{Train, Track, Box, Machine}
+use Rattle.rl_runs.specs.declared.mind.Mind.TheVariants.{Box, Machine}
 use Rattle.rl_protocol.specs.State.{State, put, put_at}
-use Rattle.rl_protocol.specs.Steps.{Step, Fits, next}
 use Rattle.rl_protocol.specs.Steps.Step.{take as take_label, grant as grant_label, refuse as refuse_label, release as release_label, lock_now as lock_now_label, lock_ask as lock_ask_label, lock_moved as lock_moved_label, unlock as unlock_label, say_yes as say_yes_label, say_no as say_no_label, busy as busy_label, throw as throw_label, settle as settle_label}
 use Rattle.rl_protocol.specs.TableLine.{line_of}
 use Rattle.rl_safety.specs.Reading.{holder_of}
-use Rattle.rl_safety.specs.Effects.{with_mind, with_word}
 use Rattle.rl_safety.specs.Railway.{segment_of}
 use Rattle.rl_safety.specs.Moves.{arm_move, resv_move}
 use Rattle.rl_safety.specs.Labels.{IsLabel, Says}
@@ -76,22 +68,22 @@ resv_put : KeepsArms → (f : ℕ → ℕ → Option TrainId) (b : BoxId) (w : R
 resv_put law f b w x arm small says =
     fun_ext (λ c. fun_ext (λ y. elim (cases_eq c b.0) [
       | inl same ↦
-        let test : (b.0 == b.0) ≡ true = grind (arith, nat_tests) in
-        elim (cases_eq y x) [
-          | inl here ↦
-            let itself : (x == x) ≡ true = grind (arith, nat_tests) in
-            let within : nat_lt x 4 ≡ true = grind (arith, nat_tests) in
-            rw (same, here, test, itself, within, law.same w x arm small) refl
-          | inr there ↦
-            elim (cases_lt y 4) [
-              | inl few ↦
-                let within : nat_lt y 4 ≡ true = grind (arith, nat_tests) in
-                rw (same, test, ne_eqb y x there, within, law.others w x y arm small few there) (says y ∙ (rw within refl))
-              | inr past ↦
-                let beyond : nat_lt y 4 ≡ false = grind (arith, nat_tests) in
-                rw (same, test, ne_eqb y x there, beyond) (says y ∙ (rw beyond refl))
-            ]
-        ]
+          let test : (b.0 == b.0) ≡ true = grind (arith, nat_tests) in
+          elim (cases_eq y x) [
+            | inl here ↦
+                let itself : (x == x) ≡ true = grind (arith, nat_tests) in
+                let within : nat_lt x 4 ≡ true = grind (arith, nat_tests) in
+                rw (same, here, test, itself, within, law.same w x arm small) refl
+            | inr there ↦
+                elim (cases_lt y 4) [
+                  | inl few ↦
+                      let within : nat_lt y 4 ≡ true = grind (arith, nat_tests) in
+                      rw (same, test, ne_eqb y x there, within, law.others w x y arm small few there) (says y ∙ (rw within refl))
+                  | inr past ↦
+                      let beyond : nat_lt y 4 ≡ false = grind (arith, nat_tests) in
+                      rw (same, test, ne_eqb y x there, beyond) (says y ∙ (rw beyond refl))
+                ]
+          ]
       | inr other ↦ rw (ne_eqb c b.0 other) refl
     ]))
 
@@ -169,8 +161,8 @@ box_label law tables lay s x m after seen left here says (refuse t u l waiting w
       step = refuse_label x.number.0 t.0 l u;
       fits = (ap (λ (n : BoxMind). n.work) here.mind, verb, says_arm s x.number w l.x.0 small says ∙ held, other_number u t differ);
       leaves =
-        let with_resv : (ℕ → ℕ → Option TrainId) → State = λ f. record s { boxes = put s.boxes x.number.0 (box_at (Say t l (No u)) waiting); resv = f } in
-        rw here.mind (ap with_resv (resv_stays s.resv x.number w says));
+          let with_resv : (ℕ → ℕ → Option TrainId) → State = λ f. record s { boxes = put s.boxes x.number.0 (box_at (Say t l (No u)) waiting); resv = f } in
+          rw here.mind (ap with_resv (resv_stays s.resv x.number w says));
       moves = sym (resv_same tables x.number w);
       by = refl;
     }
@@ -238,8 +230,8 @@ box_label law tables lay s x m after seen left here says (busy t l p verb differ
       step = busy_label x.number.0 t.0 l p;
       fits = (here.mind, verb, says, other_number p.train t differ);
       leaves =
-        let with_lock : (ℕ → LockWord) → State = λ f. record s { boxes = put s.boxes x.number.0 (box_at (Say t l (No p.train)) None); lock = f } in
-        rw here.mind (ap with_lock (lock_stays s.lock x.number.0 (Locked p) says));
+          let with_lock : (ℕ → LockWord) → State = λ f. record s { boxes = put s.boxes x.number.0 (box_at (Say t l (No p.train)) None); lock = f } in
+          rw here.mind (ap with_lock (lock_stays s.lock x.number.0 (Locked p) says));
       moves = refl;
       by = refl;
     }

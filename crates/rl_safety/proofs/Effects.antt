@@ -1,15 +1,12 @@
 -- The state after an event: the one before with the mind of its node and the value of its word new.
-use Rattle.std.proofs.Common.{◌≡◌, ℕ, ◌^◌, ◌<◌, Option, Some, None, option_map, refl, sym, ap, ◌∙◌, subst}
-use Rattle.rl_base.specs.declared.ids.BoxId.{BoxId}
+use Rattle.std.proofs.Common.{◌≡◌, ℕ, Option, Some, refl, ap, ◌∙◌}
 use Rattle.rl_base.specs.declared.ids.TrainId.{TrainId}
 use Rattle.rl_base.specs.declared.layout.NodeKind.{NodeKind}
 use Rattle.rl_base.specs.declared.layout.NodeKind.TheVariants as nodes
-use Rattle.rl_base.specs.declared.layout.WordKind.{WordKind}
 use Rattle.rl_base.specs.declared.layout.WordKind.TheVariants as kinds
 use Rattle.rl_record.specs.declared.event.Event.{Event}
 use Rattle.rl_words.specs.declared.lock.LockWord.{LockWord}
 use Rattle.rl_words.specs.declared.mail.MailWord.{MailWord}
-use Rattle.rl_words.specs.declared.resv.ResvWord.{ResvWord}
 use Rattle.rl_words.specs.declared.run.RunWord.{RunWord}
 use Rattle.rl_words.specs.declared.sense.SenseWord.{SenseWord}
 use Rattle.rl_words.specs.Readings.{read_resv, read_lock, read_mail, read_run, read_sense}
@@ -187,10 +184,10 @@ word_leaves_boxes s (Run t v) = refl
 word_leaves_boxes s (Sense t v) = refl
 
 -- states are equal whose parts are
-same_state : (a b : State) → a.trains ≡ b.trains → a.tracks ≡ b.tracks → a.boxes ≡ b.boxes → a.resv ≡ b.resv → a.lock ≡ b.lock → a.mail ≡ b.mail → a.run ≡ b.run → a.sense ≡ b.sense → a ≡ b
+pub same_state : (a b : State) → a.trains ≡ b.trains → a.tracks ≡ b.tracks → a.boxes ≡ b.boxes → a.resv ≡ b.resv → a.lock ≡ b.lock → a.mail ≡ b.mail → a.run ≡ b.run → a.sense ≡ b.sense → a ≡ b
 same_state a b e1 e2 e3 e4 e5 e6 e7 e8 =
     let build = λ (t : ℕ → TrainMind) (k : ℕ → TrackMind) (x : ℕ → BoxMind) (r : ℕ → ℕ → Option TrainId) (l : ℕ → LockWord) (m : ℕ → MailWord) (u : ℕ → RunWord) (v : ℕ → SenseWord).
-      let made : State = record { trains = t; tracks = k; boxes = x; resv = r; lock = l; mail = m; run = u; sense = v } in made in
+    let made : State = record { trains = t; tracks = k; boxes = x; resv = r; lock = l; mail = m; run = u; sense = v } in made in
     let p1 : a ≡ build b.trains a.tracks a.boxes a.resv a.lock a.mail a.run a.sense = ap (λ t. build t a.tracks a.boxes a.resv a.lock a.mail a.run a.sense) e1 in
     let p2 : build b.trains a.tracks a.boxes a.resv a.lock a.mail a.run a.sense ≡ build b.trains b.tracks a.boxes a.resv a.lock a.mail a.run a.sense = ap (λ k. build b.trains k a.boxes a.resv a.lock a.mail a.run a.sense) e2 in
     let p3 : build b.trains b.tracks a.boxes a.resv a.lock a.mail a.run a.sense ≡ build b.trains b.tracks b.boxes a.resv a.lock a.mail a.run a.sense = ap (λ x. build b.trains b.tracks x a.resv a.lock a.mail a.run a.sense) e3 in
@@ -207,7 +204,7 @@ state_after tables tries c e node mind new left by is on reads =
     let minds = minds_after tables tries c e node mind by is in
     let words = words_after tables c e new left (with_mind (read tables tries c) node mind) (mind_leaves tables tries c node mind is) on reads in
     same_state (read tables tries (after tables c e)) (with_word (with_mind (read tables tries c) node mind) left)
-      (minds.trains ∙ word_leaves_trains (with_mind (read tables tries c) node mind) left)
-      (minds.tracks ∙ word_leaves_tracks (with_mind (read tables tries c) node mind) left)
-      (minds.boxes ∙ word_leaves_boxes (with_mind (read tables tries c) node mind) left)
-      words.resv words.lock words.mail words.run words.sense
+    (minds.trains ∙ word_leaves_trains (with_mind (read tables tries c) node mind) left)
+    (minds.tracks ∙ word_leaves_tracks (with_mind (read tables tries c) node mind) left)
+    (minds.boxes ∙ word_leaves_boxes (with_mind (read tables tries c) node mind) left)
+    words.resv words.lock words.mail words.run words.sense

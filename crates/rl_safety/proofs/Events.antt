@@ -1,9 +1,7 @@
 -- Each event that fits a state is a step of the protocol there.
-use Rattle.std.proofs.Common.{◌≡◌, ◌≢◌, ◌⊎◌, ℕ, zero, suc, ◌+◌, ◌*◌, ◌^◌, ◌<◌, ◌≤◌, ◌==◌, nat_lt, Bool, true, false, ◌&&◌, List, [], ◌∷◌, length, slice_get, slice_index_or, Option, Some, None, option_map, option_and_then, refl, sym, ap, ◌∙◌, subst, inl, inr, if◌then◌else◌, arith}
+use Rattle.std.proofs.Common.{◌≡◌, ℕ, ◌+◌, ◌*◌, ◌^◌, ◌<◌, nat_lt, true, length, slice_get, Option, Some, None, option_map, refl, sym, ap, ◌∙◌, subst, arith}
 use Rattle.std.specs.Prelude.{is_some, unwrap_or}
-use Rattle.std.proofs.lemmas.Bool.{cases_eq, cases_lt}
 use Rattle.std.proofs.lemmas.Bool.Decides.{nat_tests}
-use Rattle.std.proofs.lemmas.Option.{slice_get_within}
 use Rattle.rl_base.specs.declared.ids.BoxId.{BoxId}
 use Rattle.rl_base.specs.declared.ids.SegId.{SegId}
 use Rattle.rl_base.specs.declared.ids.TrainId.{TrainId}
@@ -13,26 +11,25 @@ use Rattle.rl_base.specs.declared.layout.WordKind.{WordKind}
 use Rattle.rl_base.specs.declared.layout.WordKind.TheVariants as kinds
 use Rattle.rl_base.specs.declared.kind.Side.TheVariants.{Left}
 use Rattle.rl_base.specs.Kind.{arms_of}
-use Rattle.rl_base.specs.Layout.{node_number, HasNode, HasWord}
+use Rattle.rl_base.specs.Layout.{HasWord}
 use Rattle.rl_record.specs.declared.event.Event.{Event}
 use Rattle.rl_words.specs.declared.lock.LockWord.TheVariants.{Free}
 use Rattle.rl_words.specs.declared.mail.MailWord.TheVariants.{Empty}
 use Rattle.rl_words.specs.declared.run.RunWord.TheVariants.{Clear, Go, Across}
 use Rattle.rl_words.specs.declared.sense.SenseWord.TheVariants.{Quiet}
 use Rattle.rl_words.specs.Readings.{read_resv, read_lock, read_mail, read_run, read_sense}
-use Rattle.rl_words.specs.Stamps.{payload_in, stamped}
+use Rattle.rl_words.specs.Stamps.{payload_in}
 use Rattle.rl_words.specs.Word.{Word, IsReading, FitsWord, packed_word, kind_of, read_word}
 use Rattle.rl_words.specs.Word.Word.{Resv, Lock, Mail, Run, Sense}
 use Rattle.rl_tables.specs.declared.table.BoxTable.{BoxTable}
 use Rattle.rl_tables.specs.declared.table.StepRow.{StepRow}
 use Rattle.rl_tables.specs.declared.table.TrainTable.{TrainTable}
 use Rattle.rl_tables.specs.declared.table.Tables.{Tables}
-use Rattle.rl_tables.specs.Kept.{IsLine, line_kind, line_segment}
+use Rattle.rl_tables.specs.Kept.{IsLine}
 use Rattle.rl_tables.specs.Starts.{layout_of}
-use Rattle.rl_tables.specs.Tables.{segment_in, segment_number}
+use Rattle.rl_tables.specs.Tables.{segment_in}
 use Rattle.rl_train.specs.declared.mind.TrainMind.{TrainMind}
-use Rattle.rl_train.specs.Mind.{IsTrainMind, row_of}
-use Rattle.rl_train.specs.Kept.{KeepsTrain}
+use Rattle.rl_train.specs.Mind.{IsTrainMind}
 use Rattle.rl_train.specs.Steps.{train_step}
 use Rattle.rl_box.specs.declared.mind.BoxMind.{BoxMind}
 use Rattle.rl_box.specs.Mind.{IsBoxMind}
@@ -44,30 +41,26 @@ use Rattle.rl_track.specs.Machine.{machine_step}
 use Rattle.rl_track.specs.Track.{track_step, track_at}
 use Rattle.rl_runs.specs.declared.mind.Mind.{Mind}
 use Rattle.rl_runs.specs.declared.mind.Mind.TheVariants.{Train, Track, Box, Machine}
-use Rattle.rl_runs.specs.Numbers.{node_at, word_at, train, box}
+use Rattle.rl_runs.specs.Numbers.{node_at, word_at}
 use Rattle.rl_runs.specs.Sound.{IsMindOf}
-use Rattle.rl_runs.specs.Step.{node_step, step_of, as_mind}
-use Rattle.rl_runs.specs.State.{CoreState, after, mind_after}
-use Rattle.rl_runs.specs.Run as runs
+use Rattle.rl_runs.specs.Step.{step_of, as_mind}
+use Rattle.rl_runs.specs.State.{CoreState, after}
 use Rattle.rl_runs.proofs.Keeping.{StepsKeep}
-use Rattle.rl_runs.proofs.Made.{IsMade, fits_made}
-use Rattle.rl_runs.proofs.Numbering.{node_at-some, word_at-some}
+use Rattle.rl_runs.proofs.Made.{IsMade}
 use Rattle.rl_runs.proofs.Options.{from_map, from_then, same_some}
-use Rattle.rl_runs.proofs.Sounding.{AreMinded}
 use Rattle.rl_protocol.specs.State.{State}
 use Rattle.rl_protocol.specs.Steps.{Step, Fits, next}
 use Rattle.rl_protocol.specs.StepMoves as moves
 use Rattle.rl_protocol.specs.Nodes.{node_of}
 use Rattle.rl_protocol.specs.TableLine.{line_of}
-use Rattle.rl_safety.specs.Effects.{with_mind, with_word}
 use Rattle.rl_safety.specs.Labels.{IsLabel, Says}
-use Rattle.rl_safety.specs.Moves.{move_of, word_move}
+use Rattle.rl_safety.specs.Moves.{move_of}
 use Rattle.rl_safety.specs.Railway.{row_at}
-use Rattle.rl_safety.specs.Reading.{read, payload_of, holder_of, train_mind, track_mind, box_mind}
+use Rattle.rl_safety.specs.Reading.{read, payload_of, holder_of}
 use Rattle.rl_safety.proofs.BoxLabels.{KeepsArms, IsBoxHere, box_label, machine_label}
 use Rattle.rl_safety.proofs.Effects.{state_after}
 use Rattle.rl_safety.proofs.Minds.{IsBy}
-use Rattle.rl_safety.proofs.Payloads.{payload_read, payload_of_stamped}
+use Rattle.rl_safety.proofs.Payloads.{payload_of_stamped}
 use Rattle.rl_safety.proofs.TrainLabels.{IsTrainHere, train_label, track_label}
 use Rattle.rl_safety.proofs.Words.{IsOn}
 
@@ -188,10 +181,10 @@ train_event laws words tables tries c t m kind payload made line there mind soun
     let says = says_read tables tries c kind payload kept.seen is kept.saw in
     let there_at : slice_get tables.trains x.number.0 ≡ Some x = ap (λ n. slice_get tables.trains n) number ∙ found.1 in
     let here : IsTrainHere tables (read tables tries c) x m = record {
-        mind = ap (read tables tries c).trains number ∙ train_here tables tries c t m there mind;
-        steps = steps_there tables x.number.0 x there_at;
-        row = λ row row_is. row_there tables x.number.0 m.step x row there_at row_is;
-      } in
+      mind = ap (read tables tries c).trains number ∙ train_here tables tries c t m there mind;
+      steps = steps_there tables x.number.0 x there_at;
+      row = λ row row_is. row_there tables x.number.0 m.step x row there_at row_is;
+    } in
     let label = train_label tables (read tables tries c) x m stepped.0.1 kept.seen kept.left here says kept.step in
     let mine : IsMindOf tables (nodes.Train t) (Train stepped.0.1) = λ y y_is. subst (λ (z : TrainTable). IsTrainMind z stepped.0.1) (same_some (slice_get tables.trains t.0) x y found.1 y_is) kept.after_is in
     let P : ℕ × Mind → Type 0 = λ r. IsStepAt tables (read tables tries c) (nodes.Train t) kind payload r in
@@ -236,11 +229,11 @@ box_event laws words arms tables tries c b m kind payload made line has there mi
     let says = says_read tables tries c kind payload kept.seen is kept.saw in
     let there_at : slice_get tables.boxes x.number.0 ≡ Some x = ap (λ n. slice_get tables.boxes n) number ∙ found.1 in
     let here : IsBoxHere tables (layout_of tables) (read tables tries c) x m = record {
-        mind = ap (read tables tries c).boxes number ∙ box_here tables tries c b m there mind;
-        kind = kind_there tables x.number.0 x there_at;
-        arms = λ i. arms_there tables x.number.0 x i line there_at;
-        work = (sound x found.1).work;
-      } in
+      mind = ap (read tables tries c).boxes number ∙ box_here tables tries c b m there mind;
+      kind = kind_there tables x.number.0 x there_at;
+      arms = λ i. arms_there tables x.number.0 x i line there_at;
+      work = (sound x found.1).work;
+    } in
     let label = box_label arms tables (layout_of tables) (read tables tries c) x m stepped.0.1 kept.seen kept.left here says kept.step in
     let mine : IsMindOf tables (nodes.Box b) (Box stepped.0.1) = λ y y_is. subst (λ (z : BoxTable). IsBoxMind (layout_of tables) z stepped.0.1) (same_some (slice_get tables.boxes b.0) x y found.1 y_is) kept.after_is in
     let P : ℕ × Mind → Type 0 = λ r. IsStepAt tables (read tables tries c) (nodes.Box b) kind payload r in

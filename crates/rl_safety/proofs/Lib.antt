@@ -5,4 +5,5 @@ pub mod Effects
 pub mod TrainLabels
 pub mod BoxLabels
 pub mod Events
+pub mod Started
 pub mod Runs

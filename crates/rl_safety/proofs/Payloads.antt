@@ -1,6 +1,6 @@
 -- The payload of each word after an event: the new one at its word, and the old one at every other.
-use Rattle.std.proofs.Common.{◌≡◌, ◌≢◌, ◌⊎◌, ℕ, ◌+◌, ◌*◌, ◌/◌, ◌%◌, ◌^◌, ◌<◌, ◌==◌, nat_lt, Bool, true, false, length, slice_get, slice_set, slice_index_or, Option, Some, None, refl, sym, ap, ◌∙◌, subst, inl, inr, if◌then◌else◌, arith}
-use Rattle.std.proofs.lemmas.Bool.{cases_eq, cases_lt}
+use Rattle.std.proofs.Common.{◌≡◌, ◌⊎◌, ℕ, ◌+◌, ◌*◌, ◌/◌, ◌%◌, ◌^◌, ◌<◌, true, false, length, slice_get, slice_set, slice_index_or, Some, refl, inl, inr, arith}
+use Rattle.std.proofs.lemmas.Bool.{cases_lt}
 use Rattle.std.proofs.lemmas.Bool.Decides.{nat_tests}
 use Rattle.std.proofs.lemmas.List.{get_or-set_same, get_or-set_other}
 use Rattle.std.proofs.lemmas.Option.{slice_get_within, get_or_from_slice_get}
@@ -20,11 +20,11 @@ use Rattle.rl_safety.specs.Reading.{has_word, payload_of}
 -- the test of a word's being there
 there_or_not : (lay : Layout) (kind : WordKind) → (has_word lay kind ≡ true × HasWord lay kind) ⊎ (has_word lay kind ≡ false)
 there_or_not lay words.Still = inl (refl, tt)
-there_or_not lay (words.Resv b) = elim (cases_lt b.0 lay.boxes) [ | inl h ↦ inl (grind (arith, nat_tests), h) | inr h ↦ inr (grind (arith, nat_tests)) ]
-there_or_not lay (words.Lock b) = elim (cases_lt b.0 lay.boxes) [ | inl h ↦ inl (grind (arith, nat_tests), h) | inr h ↦ inr (grind (arith, nat_tests)) ]
-there_or_not lay (words.Mail t) = elim (cases_lt t.0 lay.trains) [ | inl h ↦ inl (grind (arith, nat_tests), h) | inr h ↦ inr (grind (arith, nat_tests)) ]
-there_or_not lay (words.Run t) = elim (cases_lt t.0 lay.trains) [ | inl h ↦ inl (grind (arith, nat_tests), h) | inr h ↦ inr (grind (arith, nat_tests)) ]
-there_or_not lay (words.Sense t) = elim (cases_lt t.0 lay.trains) [ | inl h ↦ inl (grind (arith, nat_tests), h) | inr h ↦ inr (grind (arith, nat_tests)) ]
+there_or_not lay (words.Resv b) = elim (cases_lt b.0 lay.boxes) [ inl h ↦ inl (grind (arith, nat_tests), h) | inr h ↦ inr (grind (arith, nat_tests)) ]
+there_or_not lay (words.Lock b) = elim (cases_lt b.0 lay.boxes) [ inl h ↦ inl (grind (arith, nat_tests), h) | inr h ↦ inr (grind (arith, nat_tests)) ]
+there_or_not lay (words.Mail t) = elim (cases_lt t.0 lay.trains) [ inl h ↦ inl (grind (arith, nat_tests), h) | inr h ↦ inr (grind (arith, nat_tests)) ]
+there_or_not lay (words.Run t) = elim (cases_lt t.0 lay.trains) [ inl h ↦ inl (grind (arith, nat_tests), h) | inr h ↦ inr (grind (arith, nat_tests)) ]
+there_or_not lay (words.Sense t) = elim (cases_lt t.0 lay.trains) [ inl h ↦ inl (grind (arith, nat_tests), h) | inr h ↦ inr (grind (arith, nat_tests)) ]
 
 has_word-true : (lay : Layout) (kind : WordKind) → HasWord lay kind → has_word lay kind ≡ true
 has_word-true lay words.Still h = refl
@@ -58,11 +58,11 @@ pub payload_kept : (tables : Tables) (c : CoreState) (e : Event) (kind other : W
 payload_kept tables c e kind other at differ =
     elim (there_or_not (layout_of tables) other) [
       | inl there ↦
-        let apart : word_number (layout_of tables) other ≡ e.word.0 → ⊥ = λ same.
+          let apart : word_number (layout_of tables) other ≡ e.word.0 → ⊥ = λ same.
           let mine : word_at (layout_of tables) (word_number (layout_of tables) other) ≡ Some other = word_at-number (layout_of tables) other there.1 in
           let his : word_at (layout_of tables) (word_number (layout_of tables) other) ≡ Some kind = rw same at in
           differ (cc (mine, his)) in
-        let got : slice_index_or (slice_set c.words e.word.0 e.now) (word_number (layout_of tables) other) 0 ≡ slice_index_or c.words (word_number (layout_of tables) other) 0 = get_or-set_other c.words e.word.0 (word_number (layout_of tables) other) e.now 0 apart in
-        rw (there.0, got) refl
+          let got : slice_index_or (slice_set c.words e.word.0 e.now) (word_number (layout_of tables) other) 0 ≡ slice_index_or c.words (word_number (layout_of tables) other) 0 = get_or-set_other c.words e.word.0 (word_number (layout_of tables) other) e.now 0 apart in
+          rw (there.0, got) refl
       | inr not_there ↦ rw not_there refl
     ]

@@ -1,35 +1,29 @@
 -- Each step of a train and of its track is a step of the protocol.
-use Rattle.std.proofs.Common.{◌≡◌, ◌≢◌, ℕ, ◌+◌, ◌-◌, ◌<◌, ◌==◌, Bool, true, false, not, ◌&&◌, ◌||◌, length, slice_get, Option, Some, None, option_map, refl, sym, ap, ◌∙◌, subst, if◌then◌else◌, arith}
+use Rattle.std.proofs.Common.{◌≡◌, ℕ, ◌==◌, Bool, true, false, not, ◌&&◌, ◌||◌, length, Some, refl}
 use Rattle.rl_base.specs.declared.ids.TrainId.{TrainId}
 use Rattle.rl_base.specs.declared.job.Job.{Job}
 use Rattle.rl_base.specs.declared.job.Job.TheVariants.{Pass, Unlock}
 use Rattle.rl_base.specs.declared.layout.NodeKind.TheVariants as nodes
 use Rattle.rl_words.specs.declared.mail.Letter.{Letter}
-use Rattle.rl_words.specs.declared.mail.MailWord.TheVariants.{Empty, Ask, Taken, Yes, No}
-use Rattle.rl_words.specs.declared.run.RunWord.TheVariants.{Clear, Go, Across}
-use Rattle.rl_words.specs.declared.sense.SenseWord.TheVariants.{Quiet, Head, Tail}
+use Rattle.rl_words.specs.declared.run.RunWord.TheVariants.{Go, Across}
 use Rattle.rl_words.specs.Word.{Word}
-use Rattle.rl_words.specs.Word.Word.{Resv, Lock, Mail, Run, Sense}
 use Rattle.rl_tables.specs.declared.table.StepRow.{StepRow}
 use Rattle.rl_tables.specs.declared.table.TrainTable.{TrainTable}
 use Rattle.rl_tables.specs.declared.table.Tables.{Tables}
 use Rattle.rl_train.specs.declared.mind.TrainMind.{TrainMind}
-use Rattle.rl_train.specs.Jobs.{letter, after_yes, after_no, is_pass, is_near, ends_step}
+use Rattle.rl_train.specs.Jobs.{letter, after_no, is_pass, is_near}
 use Rattle.rl_train.specs.Mind.{row_of, is_resting}
 use Rattle.rl_train.specs.Steps as trains
 use Rattle.rl_train.specs.Steps.{TrainStep}
 use Rattle.rl_train.specs.Steps.TrainStep.{post, hear_yes, hear_no, go, quiet}
 use Rattle.rl_track.specs.declared.track.TrackMind.{TrackMind}
-use Rattle.rl_track.specs.declared.track.TrackPhase.TheVariants.{Watch, HeadDue, LeaveDue, TailDue}
+use Rattle.rl_track.specs.declared.track.TrackPhase.TheVariants.{Watch, LeaveDue}
 use Rattle.rl_track.specs.Track.{TrackStep, track_at}
 use Rattle.rl_track.specs.Track.TrackStep.{enter, head, leave, tail}
-use Rattle.rl_runs.specs.declared.mind.Mind.{Mind}
-use Rattle.rl_runs.specs.declared.mind.Mind.TheVariants.{Train, Track, Box, Machine}
+use Rattle.rl_runs.specs.declared.mind.Mind.TheVariants.{Train, Track}
 use Rattle.rl_protocol.specs.Jobs.{letter_at, job_after_yes, job_after_no, passes, begins, finishes}
 use Rattle.rl_protocol.specs.Minds as minds
-use Rattle.rl_protocol.specs.State.{State, put}
-use Rattle.rl_protocol.specs.Steps as steps
-use Rattle.rl_protocol.specs.Steps.{Step, Fits, next}
+use Rattle.rl_protocol.specs.State.{State}
 use Rattle.rl_protocol.specs.Steps.Step.{post as post_label, hear_yes as hear_yes_label, hear_no as hear_no_label, go as go_label, quiet as quiet_label, enter as enter_label, head as head_label, leave as leave_label, tail as tail_label}
 use Rattle.rl_protocol.specs.TableLine.{line_of}
 use Rattle.rl_safety.specs.Railway.{row_at}

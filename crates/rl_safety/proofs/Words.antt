@@ -1,5 +1,5 @@
 -- What the words say after an event: the new value at its word, and the old one at every other.
-use Rattle.std.proofs.Common.{◌≡◌, ◌≢◌, ◌⊎◌, ℕ, ◌^◌, ◌<◌, ◌==◌, nat_lt, Bool, true, false, slice_get, Option, Some, None, unwrap_or, option_map, refl, sym, ap, ◌∙◌, subst, inl, inr, if◌then◌else◌, arith}
+use Rattle.std.proofs.Common.{◌≡◌, ℕ, ◌^◌, ◌<◌, ◌==◌, true, slice_get, Option, Some, unwrap_or, refl, sym, ap, ◌∙◌, inl, inr, if◌then◌else◌, arith}
 use Rattle.std.proofs.Math.Path.{fun_ext}
 use Rattle.std.proofs.lemmas.Bool.{cases_eq, ne_eqb}
 use Rattle.std.proofs.lemmas.Bool.Decides.{nat_tests}
@@ -19,7 +19,7 @@ use Rattle.rl_words.specs.declared.run.RunWord.TheVariants.{Clear}
 use Rattle.rl_words.specs.declared.sense.SenseWord.{SenseWord}
 use Rattle.rl_words.specs.declared.sense.SenseWord.TheVariants.{Quiet}
 use Rattle.rl_words.specs.Readings.{read_resv, read_lock, read_mail, read_run, read_sense}
-use Rattle.rl_words.specs.Stamps.{payload_in, stamped}
+use Rattle.rl_words.specs.Stamps.{stamped}
 use Rattle.rl_tables.specs.declared.table.Tables.{Tables}
 use Rattle.rl_tables.specs.Starts.{layout_of}
 use Rattle.rl_runs.specs.Numbers.{word_at, train, box}
@@ -61,10 +61,10 @@ pub locks_new : (tables : Tables) (c : CoreState) (e : Event) (b : BoxId) (v : L
 locks_new tables c e b v new on reads =
     fun_ext (λ u. elim (cases_eq u b.0) [
       | inl same ↦
-        let mine : unwrap_or (read_lock (payload_of tables (after tables c e) (words.Lock b))) (Free Left) ≡ v = rw (here tables c e (words.Lock b) new on, reads) refl in
-        rw same (mine ∙ sym (set_same (lock_in tables c) b.0 v))
+          let mine : unwrap_or (read_lock (payload_of tables (after tables c e) (words.Lock b))) (Free Left) ≡ v = rw (here tables c e (words.Lock b) new on, reads) refl in
+          rw same (mine ∙ sym (set_same (lock_in tables c) b.0 v))
       | inr other ↦
-        rw (set_other (lock_in tables c) b.0 v u other)
+          rw (set_other (lock_in tables c) b.0 v u other)
           (rw (kept tables c e (words.Lock b) (words.Lock (box u)) new on (λ same. other (box_number u b (cc)))) refl)
     ])
 
@@ -76,10 +76,10 @@ pub mails_new : (tables : Tables) (c : CoreState) (e : Event) (t : TrainId) (v :
 mails_new tables c e t v new on reads =
     fun_ext (λ u. elim (cases_eq u t.0) [
       | inl same ↦
-        let mine : unwrap_or (read_mail (payload_of tables (after tables c e) (words.Mail t))) Empty ≡ v = rw (here tables c e (words.Mail t) new on, reads) refl in
-        rw same (mine ∙ sym (set_same (mail_in tables c) t.0 v))
+          let mine : unwrap_or (read_mail (payload_of tables (after tables c e) (words.Mail t))) Empty ≡ v = rw (here tables c e (words.Mail t) new on, reads) refl in
+          rw same (mine ∙ sym (set_same (mail_in tables c) t.0 v))
       | inr other ↦
-        rw (set_other (mail_in tables c) t.0 v u other)
+          rw (set_other (mail_in tables c) t.0 v u other)
           (rw (kept tables c e (words.Mail t) (words.Mail (train u)) new on (λ same. other (train_number u t (cc)))) refl)
     ])
 
@@ -91,10 +91,10 @@ pub runs_new : (tables : Tables) (c : CoreState) (e : Event) (t : TrainId) (v : 
 runs_new tables c e t v new on reads =
     fun_ext (λ u. elim (cases_eq u t.0) [
       | inl same ↦
-        let mine : unwrap_or (read_run (payload_of tables (after tables c e) (words.Run t))) (Clear 0) ≡ v = rw (here tables c e (words.Run t) new on, reads) refl in
-        rw same (mine ∙ sym (set_same (run_in tables c) t.0 v))
+          let mine : unwrap_or (read_run (payload_of tables (after tables c e) (words.Run t))) (Clear 0) ≡ v = rw (here tables c e (words.Run t) new on, reads) refl in
+          rw same (mine ∙ sym (set_same (run_in tables c) t.0 v))
       | inr other ↦
-        rw (set_other (run_in tables c) t.0 v u other)
+          rw (set_other (run_in tables c) t.0 v u other)
           (rw (kept tables c e (words.Run t) (words.Run (train u)) new on (λ same. other (train_number u t (cc)))) refl)
     ])
 
@@ -106,10 +106,10 @@ pub senses_new : (tables : Tables) (c : CoreState) (e : Event) (t : TrainId) (v 
 senses_new tables c e t v new on reads =
     fun_ext (λ u. elim (cases_eq u t.0) [
       | inl same ↦
-        let mine : unwrap_or (read_sense (payload_of tables (after tables c e) (words.Sense t))) (Quiet 0) ≡ v = rw (here tables c e (words.Sense t) new on, reads) refl in
-        rw same (mine ∙ sym (set_same (sense_in tables c) t.0 v))
+          let mine : unwrap_or (read_sense (payload_of tables (after tables c e) (words.Sense t))) (Quiet 0) ≡ v = rw (here tables c e (words.Sense t) new on, reads) refl in
+          rw same (mine ∙ sym (set_same (sense_in tables c) t.0 v))
       | inr other ↦
-        rw (set_other (sense_in tables c) t.0 v u other)
+          rw (set_other (sense_in tables c) t.0 v u other)
           (rw (kept tables c e (words.Sense t) (words.Sense (train u)) new on (λ same. other (train_number u t (cc)))) refl)
     ])
 
@@ -124,10 +124,10 @@ pub resvs_new : (tables : Tables) (c : CoreState) (e : Event) (b : BoxId) (w : R
 resvs_new tables c e b w new on reads =
     fun_ext (λ u. fun_ext (λ x. elim (cases_eq u b.0) [
       | inl same ↦
-        let mine : holder_of (read_resv (payload_of tables (after tables c e) (words.Resv b))) x ≡ holder_of (Some w) x = rw (here tables c e (words.Resv b) new on, reads) refl in
-        let test : (b.0 == b.0) ≡ true = grind (arith, nat_tests) in
-        let back : holder_of (Some w) x ≡ (if b.0 == b.0 then holder_of (Some w) x else holder_of (read_resv (payload_of tables c (words.Resv b))) x) = rw test refl in
-        rw same (mine ∙ back)
+          let mine : holder_of (read_resv (payload_of tables (after tables c e) (words.Resv b))) x ≡ holder_of (Some w) x = rw (here tables c e (words.Resv b) new on, reads) refl in
+          let test : (b.0 == b.0) ≡ true = grind (arith, nat_tests) in
+          let back : holder_of (Some w) x ≡ (if b.0 == b.0 then holder_of (Some w) x else holder_of (read_resv (payload_of tables c (words.Resv b))) x) = rw test refl in
+          rw same (mine ∙ back)
       | inr other ↦
-        rw (ne_eqb u b.0 other) (rw (kept tables c e (words.Resv b) (words.Resv (box u)) new on (λ same. other (box_number u b (cc)))) refl)
+          rw (ne_eqb u b.0 other) (rw (kept tables c e (words.Resv b) (words.Resv (box u)) new on (λ same. other (box_number u b (cc)))) refl)
     ]))

@@ -1,9 +1,7 @@
 -- An event as a step of the protocol: the step fits the state, leaves the mind and the word of the event, and has its move.
 use Rattle.std.specs.Prelude.{◌≡◌, ℕ, Some}
 use Rattle.rl_base.specs.declared.layout.NodeKind.{NodeKind}
-use Rattle.rl_base.specs.declared.layout.WordKind.{WordKind}
-use Rattle.rl_model.specs.declared.moves.Move.{Move}
-use Rattle.rl_words.specs.Word.{Word, kind_of}
+use Rattle.rl_words.specs.Word.{Word}
 use Rattle.rl_words.specs.Word.Word.{Resv, Lock, Mail, Run, Sense}
 use Rattle.rl_tables.specs.declared.table.Tables.{Tables}
 use Rattle.rl_runs.specs.declared.mind.Mind.{Mind}

@@ -1,9 +1,8 @@
 -- The move of an event: what the change of its word is on the railway, if it is anything there.
-use Rattle.std.specs.Prelude.{ℕ, List, [], ◌∷◌, ◌++◌, Option, Some, None, option_map, option_and_then, unwrap_or, option_to_list}
+use Rattle.std.specs.Prelude.{ℕ, List, [], ◌∷◌, ◌++◌, Option, Some, None, option_map, option_and_then, option_to_list}
 use Rattle.std.specs.Option.{option_or}
 use Rattle.rl_base.specs.declared.ids.BoxId.{BoxId}
 use Rattle.rl_base.specs.declared.ids.TrainId.{TrainId}
-use Rattle.rl_base.specs.declared.ids.SegId.{SegId}
 use Rattle.rl_base.specs.declared.job.Verb.{Verb}
 use Rattle.rl_base.specs.declared.job.Verb.TheVariants as verbs
 use Rattle.rl_base.specs.Kind.{joining_side}
@@ -15,13 +14,13 @@ use Rattle.rl_words.specs.declared.lock.LockWord.TheVariants.{Free, Asked, Movin
 use Rattle.rl_words.specs.declared.lock.Path.{Path}
 use Rattle.rl_words.specs.declared.mail.Letter.{Letter}
 use Rattle.rl_words.specs.declared.mail.MailWord.{MailWord}
-use Rattle.rl_words.specs.declared.mail.MailWord.TheVariants.{Empty, Ask, Taken, Yes, No}
+use Rattle.rl_words.specs.declared.mail.MailWord.TheVariants.{Taken, No}
 use Rattle.rl_words.specs.declared.resv.ResvWord.{ResvWord}
 use Rattle.rl_words.specs.declared.run.RunWord.{RunWord}
 use Rattle.rl_words.specs.declared.run.RunWord.TheVariants.{Clear, Go, Across}
 use Rattle.rl_words.specs.Stamps.{payload_in}
 use Rattle.rl_words.specs.Word.{Word, read_word}
-use Rattle.rl_words.specs.Word.Word.{Resv, Lock, Mail, Run, Sense}
+use Rattle.rl_words.specs.Word.Word.{Resv, Lock, Mail, Run}
 use Rattle.rl_tables.specs.declared.table.StepRow.{StepRow}
 use Rattle.rl_tables.specs.declared.table.Tables.{Tables}
 use Rattle.rl_tables.specs.Kept.{line_kind}
@@ -40,7 +39,7 @@ arm_move tables b x (Some t) (Some u) = None
 abbrev pub resv_move : Tables → BoxId → ResvWord → ResvWord → Option Move
 resv_move tables b w v =
     option_or (arm_move tables b 0 w.arm0 v.arm0) (option_or (arm_move tables b 1 w.arm1 v.arm1)
-      (option_or (arm_move tables b 2 w.arm2 v.arm2) (arm_move tables b 3 w.arm3 v.arm3)))
+    (option_or (arm_move tables b 2 w.arm2 v.arm2) (arm_move tables b 3 w.arm3 v.arm3)))
 
 abbrev pub lock_on : Tables → BoxId → Path → Option Move
 lock_on tables b p = Some (moves.Lock p.train b (segment_of tables b p.x.0) (segment_of tables b p.y.0))
@@ -83,9 +82,9 @@ word_move tables _ _ = None
 abbrev pub move_of : Tables → Event → Option Move
 move_of tables e =
     option_and_then (λ kind.
-      option_and_then (λ was. option_and_then (word_move tables was) (read_word kind (payload_in e.now)))
-        (read_word kind (payload_in e.was)))
-      (word_at (layout_of tables) e.word.0)
+    option_and_then (λ was. option_and_then (word_move tables was) (read_word kind (payload_in e.now)))
+    (read_word kind (payload_in e.was)))
+    (word_at (layout_of tables) e.word.0)
 
 -- the moves of a run, the oldest first; the run has the newest event first
 abbrev pub moves_of : Tables → List Event → List Move

@@ -1,5 +1,5 @@
 -- The rows of a train's steps, and the segments at the arms of a box, by their numbers.
-use Rattle.std.specs.Prelude.{ℕ, slice_get, Option, option_and_then, unwrap_or}
+use Rattle.std.specs.Prelude.{ℕ, slice_get, Option, option_and_then}
 use Rattle.rl_base.specs.declared.ids.BoxId.{BoxId}
 use Rattle.rl_base.specs.declared.ids.SegId.{SegId}
 use Rattle.rl_tables.specs.declared.table.StepRow.{StepRow}

@@ -1,6 +1,5 @@
 -- The state of the protocol, read from the words and the minds of a core.
-use Rattle.std.specs.Prelude.{ℕ, ◌==◌, nat_lt, Bool, true, slice_get, slice_index_or, Option, Some, None, unwrap_or, option_and_then, if◌then◌else◌}
-use Rattle.std.specs.Option.{option_map_or}
+use Rattle.std.specs.Prelude.{ℕ, nat_lt, Bool, true, slice_index_or, Option, Some, None, unwrap_or, if◌then◌else◌}
 use Rattle.rl_base.specs.declared.ids.TrainId.{TrainId}
 use Rattle.rl_base.specs.declared.kind.Side.TheVariants.{Left}
 use Rattle.rl_base.specs.declared.layout.Layout.{Layout}
@@ -29,7 +28,7 @@ use Rattle.rl_box.specs.Mind.{start_box}
 use Rattle.rl_track.specs.declared.track.TrackMind.{TrackMind}
 use Rattle.rl_track.specs.Track.{start_track}
 use Rattle.rl_runs.specs.declared.mind.Mind.{Mind}
-use Rattle.rl_runs.specs.declared.mind.Mind.TheVariants.{Train, Track, Box, Machine}
+use Rattle.rl_runs.specs.declared.mind.Mind.TheVariants.{Train, Track, Box}
 use Rattle.rl_runs.specs.Numbers.{train, box}
 use Rattle.rl_runs.specs.State.{CoreState}
 use Rattle.rl_protocol.specs.State.{State}
