@@ -27,3 +27,4 @@ pub mod Totals
 pub mod ExampleRun
 pub mod TableLines
 pub mod Named
+pub mod Labels
