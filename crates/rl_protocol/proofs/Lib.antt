@@ -28,3 +28,4 @@ pub mod ExampleRun
 pub mod TableLines
 pub mod Named
 pub mod Labels
+pub mod BoxLabels
