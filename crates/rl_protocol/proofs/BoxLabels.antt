@@ -1,13 +1,12 @@
 -- Each line of the sentences of a box is a step of the whole state.
-use Rattle.std.proofs.Common.{◌≡◌, ◌≢◌, ℕ, zero, suc, ◌+◌, ◌<◌, ◌≤◌, ◌==◌, Bool, true, false, cond, ltb, ◌&&◌, slice_get, Option, Some, None, option_and_then, refl, sym, ap, ◌∙◌, subst, inl, inr, ◌⊎◌, ⊎_elim, arith}
+use Rattle.std.proofs.Common.{◌≡◌, ◌≢◌, ℕ, ◌<◌, ◌≤◌, ◌==◌, Bool, true, false, cond, slice_get, Option, Some, None, option_and_then, refl, sym, ap, ◌∙◌, subst, arith}
 use Rattle.std.specs.Prelude.{nat_lt, is_some, option_map}
 use Rattle.std.specs.Option.{option_map_or}
 use Rattle.std.proofs.Math.Path.{fun_ext}
-use Rattle.std.proofs.lemmas.Bool.{cond_both, eqb-true, ltb-true, lt-ltb, and_parts, and_from, false≢true, cases_eq, cases_Bool}
+use Rattle.std.proofs.lemmas.Bool.{ltb-true, lt-ltb, and_parts, and_from}
 use Rattle.std.proofs.lemmas.Bool.Decides.{nat_tests}
 use Rattle.rl_base.specs.declared.ids.SegId.{SegId}
 use Rattle.rl_base.specs.declared.ids.TrainId.{TrainId}
-use Rattle.rl_base.specs.declared.job.Verb.{Verb}
 use Rattle.rl_base.specs.declared.job.Verb.TheVariants as verbs
 use Rattle.rl_base.specs.declared.kind.Kind.{Kind}
 use Rattle.rl_base.specs.declared.kind.Kind.TheVariants.{Buffer, Joint, Point, Crossing}
@@ -15,7 +14,7 @@ use Rattle.rl_base.specs.declared.kind.Side.{Side}
 use Rattle.rl_base.specs.declared.layout.NodeKind.TheVariants as nodes
 use Rattle.rl_base.specs.Kind.{arms_of, arms_join, joining_side}
 use Rattle.rl_words.specs.declared.lock.LockWord.{LockWord}
-use Rattle.rl_words.specs.declared.lock.LockWord.TheVariants.{Free, Asked, Moving, Moved, Locked}
+use Rattle.rl_words.specs.declared.lock.LockWord.TheVariants.{Free, Asked, Moved, Locked}
 use Rattle.rl_words.specs.declared.lock.Path.{Path}
 use Rattle.rl_words.specs.declared.mail.Letter.{Letter}
 use Rattle.rl_words.specs.declared.mail.MailWord.TheVariants as mails
@@ -23,11 +22,11 @@ use Rattle.rl_words.specs.declared.resv.ResvWord.{ResvWord}
 use Rattle.rl_words.specs.Mail.{IsRefusable, about_passage}
 use Rattle.rl_words.specs.Resv.{arm_in, with_arm}
 use Rattle.rl_words.specs.Word.{Word}
-use Rattle.rl_words.specs.Word.Word.{Resv, Lock, Mail}
+use Rattle.rl_words.specs.Word.Word.{Resv, Lock}
 use Rattle.rl_tables.specs.declared.table.BoxTable.{BoxTable}
 use Rattle.rl_tables.specs.declared.table.Tables.{Tables}
 use Rattle.rl_tables.specs.Tables.{segment_in, segment_number}
-use Rattle.rl_tables.specs.Kept.{line_kind, line_segment, IsLine}
+use Rattle.rl_tables.specs.Kept.{IsLine}
 use Rattle.rl_box.specs.declared.mind.Answer.TheVariants as answers
 use Rattle.rl_box.specs.declared.mind.BoxMind.{BoxMind}
 use Rattle.rl_box.specs.declared.mind.Work.{Work}
@@ -35,14 +34,13 @@ use Rattle.rl_box.specs.declared.mind.Work.TheVariants.{Ready, Serve, Say}
 use Rattle.rl_box.specs.Mind.{box_at}
 use Rattle.rl_box.specs.Steps.{BoxStep, has_arms, path_of, other_side}
 use Rattle.rl_box.specs.Steps.BoxStep.{take as takes, reserve as reserves, refuse as refuses, release as releases, lock as lock_it, ask as asks_points, moved as sees_moved, unlock as unlocks, say_yes as says_yes, say_refused as says_refused, say_barred as says_barred, busy as is_busy}
-use Rattle.rl_protocol.specs.Line.{Line}
 use Rattle.rl_protocol.specs.State.{State, put, put_at}
 use Rattle.rl_protocol.specs.Minds.{train, box, row_of, names_arms}
-use Rattle.rl_protocol.specs.Steps.{Step, take, grant, refuse, release, lock_now, lock_ask, lock_moved, unlock, say_yes, say_no, busy, Fits, next}
+use Rattle.rl_protocol.specs.Steps.{take, grant, refuse, release, lock_now, lock_ask, lock_moved, unlock, say_yes, say_no, busy}
 use Rattle.rl_protocol.specs.Agreement.{Agrees}
 use Rattle.rl_protocol.specs.TableLine.{line_of}
-use Rattle.rl_protocol.specs.Sentences.{holder_in, HasWord, with_word, with_box, Makes}
-use Rattle.rl_protocol.proofs.Known.{HasTaken, taken}
+use Rattle.rl_protocol.specs.Sentences.{holder_in, HasWord, with_box, Makes}
+use Rattle.rl_protocol.proofs.Known.{taken}
 use Rattle.rl_protocol.proofs.Letters.{row_arms, letter_arm}
 use Rattle.rl_protocol.proofs.Paths.{waiting_within}
 use Rattle.rl_protocol.proofs.TableLines.{consistent_line}
@@ -82,7 +80,7 @@ new_resv resv b x v o four h = fun_ext (λ c. fun_ext (λ y. at c y))
     at c y = let here = h y in let one = one_arm v x y o four in grind (arith, nat_tests)
 
 -- the holder of one of four arms
-four_arms : (w : ResvWord) (x : ℕ) → x < 4 → holder_in w x ≡ arm_in w x
+pub four_arms : (w : ResvWord) (x : ℕ) → x < 4 → holder_in w x ≡ arm_in w x
 four_arms w x h = ap (λ c. cond c (arm_in w x) None) (lt-ltb x 4 h)
 
 few_arms : (kind : Kind) → arms_of kind ≤ 4
@@ -92,11 +90,11 @@ few_arms Point = omega arith
 few_arms Crossing = omega arith
 
 module _ (tables : Tables) (s : State) (b : ℕ) (table : BoxTable) (line : IsLine tables) (there : slice_get tables.boxes b ≡ Some table) (number : table.number ≡ box b) where
-  kind_is : (line_of tables).kind b ≡ table.kind
+  pub kind_is : (line_of tables).kind b ≡ table.kind
   kind_is = ap (λ o. option_map_or (λ (x : BoxTable). x.kind) o Buffer) there
 
   -- the arms of the box, by the line and by its table
-  arm_is : (x : ℕ) → (line_of tables).has_arm b x ≡ nat_lt x (arms_of table.kind)
+  pub arm_is : (x : ℕ) → (line_of tables).has_arm b x ≡ nat_lt x (arms_of table.kind)
   arm_is x = ap (λ o. is_some (option_and_then (λ (y : BoxTable). segment_number y x) o)) there ∙ shown (segment_in table x) ∙ (line.boxes b table there).arms x
     where
       shown : (o : Option SegId) → is_some (option_map (λ (z : SegId). z.0) o) ≡ is_some o
@@ -113,7 +111,7 @@ module _ (tables : Tables) (s : State) (b : ℕ) (table : BoxTable) (line : IsLi
       and_from _ _ (ap (λ n. (line_of tables).has_arm n l.x.0) at ∙ arm_is l.x.0 ∙ parts.0) (ap (λ n. (line_of tables).has_arm n l.y.0) at ∙ arm_is l.y.0 ∙ parts.1)
 
   -- a letter in hand names one of four arms
-  four : (tries : ℕ) → Agrees (line_of tables) tries s → (t : TrainId) (l : Letter) (waiting : Option Path) → s.boxes b ≡ box_at (Serve t l) waiting → l.x.0 < 4
+  pub four : (tries : ℕ) → Agrees (line_of tables) tries s → (t : TrainId) (l : Letter) (waiting : Option Path) → s.boxes b ≡ box_at (Serve t l) waiting → l.x.0 < 4
   four tries agrees t l waiting is =
       let has = taken (line_of tables) s b t.0 l agrees.mailboxes (agrees.mailboxes.serves b t l (ap (λ (m : BoxMind). m.work) is)) in
       let arm = letter_arm (line_of tables) (row_of (line_of tables) t.0 (s.trains t.0)) (s.trains t.0).job l (row_arms (line_of tables) t.0 (s.trains t.0).step (consistent_line tables line) (waiting_within (line_of tables) tries s t.0 agrees has.waits)) has.letter in
@@ -150,7 +148,7 @@ module _ (tables : Tables) (s : State) (b : ℕ) (table : BoxTable) (line : IsLi
         by_node = refl;
         on_word = refl;
         leaves = written (put_at s.resv b l.x.0 (Some t)) s.lock _ _ (mind_with (s.boxes b) (Serve t l) (Say t l answers.Yes) waiting is)
-        ∙ ap (λ r. record (with_box s b mind) { resv = r }) (new_resv s.resv b l.x.0 word (Some t) below at);
+            ∙ ap (λ r. record (with_box s b mind) { resv = r }) (new_resv s.resv b l.x.0 word (Some t) below at);
       })
   box_makes tries before w v mind agrees is (refuses t u l waiting word verb held apart) has =
       let at = subst (λ n. (x : ℕ) → s.resv n.0 x ≡ holder_in word x) number has in
@@ -162,7 +160,7 @@ module _ (tables : Tables) (s : State) (b : ℕ) (table : BoxTable) (line : IsLi
         by_node = refl;
         on_word = refl;
         leaves = written s.resv s.lock _ _ (mind_with (s.boxes b) (Serve t l) (Say t l (answers.No u)) waiting is)
-        ∙ ap (λ r. record (with_box s b mind) { resv = r }) (same_resv s.resv b word at);
+            ∙ ap (λ r. record (with_box s b mind) { resv = r }) (same_resv s.resv b word at);
       })
   box_makes tries before w v mind agrees is (releases t l waiting word verb held) has =
       let at = subst (λ n. (x : ℕ) → s.resv n.0 x ≡ holder_in word x) number has in
@@ -174,7 +172,7 @@ module _ (tables : Tables) (s : State) (b : ℕ) (table : BoxTable) (line : IsLi
         by_node = refl;
         on_word = refl;
         leaves = written (put_at s.resv b l.x.0 None) s.lock _ _ (mind_with (s.boxes b) (Serve t l) (Say t l answers.Yes) waiting is)
-        ∙ ap (λ r. record (with_box s b mind) { resv = r }) (new_resv s.resv b l.x.0 word None below at);
+            ∙ ap (λ r. record (with_box s b mind) { resv = r }) (new_resv s.resv b l.x.0 word None below at);
       })
   box_makes tries before w v mind agrees is (lock_it t l side verb joins) has =
       at_lock (Locked (path_of t l)) mind
@@ -249,5 +247,5 @@ module _ (tables : Tables) (s : State) (b : ℕ) (table : BoxTable) (line : IsLi
         by_node = refl;
         on_word = refl;
         leaves = written s.resv s.lock _ _ (mind_with (s.boxes b) (Serve t l) (Say t l (answers.No p.train)) None is)
-        ∙ ap (λ k. record (with_box s b mind) { lock = k }) (same_lock s.lock b (Locked p) at);
+            ∙ ap (λ k. record (with_box s b mind) { lock = k }) (same_lock s.lock b (Locked p) at);
       })

@@ -1,13 +1,7 @@
 -- Each line of the sentences of the minds is a step of the whole state.
-use Rattle.std.proofs.Common.{◌≡◌, ◌≢◌, ℕ, zero, suc, ◌+◌, ◌-◌, ◌<◌, ◌≤◌, ◌==◌, Bool, true, false, cond, not, ltb, ◌&&◌, ◌||◌, length, slice_get, Option, Some, None, option_and_then, refl, sym, ap, ◌∙◌, subst, inl, inr, ◌⊎◌, ⊎_elim, arith}
-use Rattle.std.specs.Prelude.{unwrap_or, nat_lt, is_some}
+use Rattle.std.proofs.Common.{◌≡◌, ℕ, ◌+◌, ◌==◌, Bool, true, false, not, ◌&&◌, ◌||◌, length, slice_get, Some, option_and_then, refl, sym, ap, ◌∙◌, subst, arith}
+use Rattle.std.specs.Prelude.{unwrap_or}
 use Rattle.std.specs.Option.{option_map_or}
-use Rattle.std.proofs.Math.Path.{fun_ext}
-use Rattle.std.proofs.lemmas.Bool.{cond_both, eqb-true, ltb-true, and_parts, and_from}
-use Rattle.std.proofs.lemmas.Bool.Decides.{nat_tests}
-use Rattle.rl_base.specs.declared.ids.TrainId.{TrainId}
-use Rattle.rl_base.specs.declared.ids.BoxId.{BoxId}
-use Rattle.rl_base.specs.declared.job.Job.{Job}
 use Rattle.rl_base.specs.declared.job.Job.TheVariants.{Pass, Unlock}
 use Rattle.rl_words.specs.declared.mail.MailWord.{MailWord}
 use Rattle.rl_train.specs.Jobs.{after_yes, is_pass}
@@ -17,11 +11,10 @@ use Rattle.rl_words.specs.declared.mail.MailWord.TheVariants as mails
 use Rattle.rl_words.specs.declared.run.RunWord.TheVariants as runs
 use Rattle.rl_words.specs.declared.sense.SenseWord.TheVariants as senses
 use Rattle.rl_words.specs.Word.{Word}
-use Rattle.rl_words.specs.Word.Word.{Resv, Lock, Mail, Run, Sense}
+use Rattle.rl_words.specs.Word.Word.{Mail, Run, Sense}
 use Rattle.rl_tables.specs.declared.table.StepRow.{StepRow}
 use Rattle.rl_tables.specs.declared.table.TrainTable.{TrainTable}
 use Rattle.rl_tables.specs.declared.table.Tables.{Tables}
-use Rattle.rl_tables.specs.Kept.{IsLine}
 use Rattle.rl_train.specs.declared.mind.TrainMind.{TrainMind}
 use Rattle.rl_train.specs.Mind.{is_resting}
 use Rattle.rl_train.specs.Steps.{TrainStep}
@@ -37,9 +30,9 @@ use Rattle.rl_protocol.specs.Line.{Line}
 use Rattle.rl_protocol.specs.Jobs.{letter_at, job_after_yes, job_after_no, passes, begins, finishes}
 use Rattle.rl_protocol.specs.State.{State, put}
 use Rattle.rl_protocol.specs.Minds.{train, box, at_rest, row_of, letter_of, posted, heard, passed}
-use Rattle.rl_protocol.specs.Steps.{Step, post, hear_yes, hear_no, go, quiet, throw, settle, enter, head, leave, tail, Fits, next}
+use Rattle.rl_protocol.specs.Steps.{post, hear_yes, hear_no, go, quiet, throw, settle, enter, head, leave, tail}
 use Rattle.rl_protocol.specs.TableLine.{no_row, line_of}
-use Rattle.rl_protocol.specs.Sentences.{HasWord, with_word, with_train, with_track, Makes}
+use Rattle.rl_protocol.specs.Sentences.{HasWord, with_train, with_track, Makes}
 
 -- the row and the number of steps of a train that is there
 row_is : (tables : Tables) (t : ℕ) (table : TrainTable) (mind : TrainMind) (row : StepRow) → slice_get tables.trains t ≡ Some table → slice_get table.rows mind.step ≡ Some row → row_of (line_of tables) t mind ≡ row

@@ -29,3 +29,4 @@ pub mod TableLines
 pub mod Named
 pub mod Labels
 pub mod BoxLabels
+pub mod BoxLines

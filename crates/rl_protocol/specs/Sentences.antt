@@ -8,6 +8,8 @@ use Rattle.rl_words.specs.Word.{Word, kind_of}
 use Rattle.rl_words.specs.Word.Word.{Resv, Lock, Mail, Run, Sense}
 use Rattle.rl_train.specs.declared.mind.TrainMind.{TrainMind}
 use Rattle.rl_box.specs.declared.mind.BoxMind.{BoxMind}
+use Rattle.rl_tables.specs.declared.table.BoxTable.{BoxTable}
+use Rattle.rl_box.specs.Steps.{BoxStep}
 use Rattle.rl_track.specs.declared.track.TrackMind.{TrackMind}
 use Rattle.rl_protocol.specs.Line.{Line}
 use Rattle.rl_protocol.specs.State.{State, put}
@@ -51,3 +53,9 @@ pub record Makes (line : Line) (s : State) (node : NodeKind) (word : Word) (afte
   pub by_node : node_of step ≡ node
   pub on_word : word_of step ≡ kind_of word
   pub leaves : next line s step ≡ with_word after word
+
+-- a box with this mind has a line at the word
+pub record HasLine (table : BoxTable) (mind : BoxMind) (word : Word) : Type 0 where
+  pub next : Word
+  pub after : BoxMind
+  pub line : BoxStep table mind word next after
