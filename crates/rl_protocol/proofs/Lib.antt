@@ -27,3 +27,6 @@ pub mod Totals
 pub mod ExampleRun
 pub mod TableLines
 pub mod Named
+pub mod Labels
+pub mod BoxLabels
+pub mod BoxLines

@@ -14,4 +14,5 @@ pub mod AtWork
 pub mod Rest
 pub mod Counts
 pub mod TableLine
+pub mod Sentences
 pub mod Examples

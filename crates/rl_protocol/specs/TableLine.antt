@@ -20,6 +20,10 @@ segment_of_route x (suc k) = option_map (λ (row : StepRow). row.s2.0) (slice_ge
 abbrev pub route_of : Tables → (t k : ℕ) → Option ℕ
 route_of tables t k = option_and_then (λ (x : TrainTable). segment_of_route x k) (slice_get tables.trains t)
 
+-- the row of step k of train t
+abbrev pub row_in : Tables → (t k : ℕ) → Option StepRow
+row_in tables t k = option_and_then (λ (x : TrainTable). slice_get x.rows k) (slice_get tables.trains t)
+
 -- what stands for a row that isn't there
 abbrev pub no_row : StepRow
 no_row =
@@ -44,6 +48,6 @@ line_of tables =
       segment = λ b x. seg (unwrap_or (line_segment tables b x) 0);
       first_holder = λ b x. option_and_then (holder_of tables) (line_segment tables b x);
       steps = λ t. option_map_or (λ (x : TrainTable). length x.rows) (slice_get tables.trains t) 0;
-      row = λ t k. unwrap_or (option_and_then (λ (x : TrainTable). slice_get x.rows k) (slice_get tables.trains t)) no_row;
+      row = λ t k. unwrap_or (row_in tables t k) no_row;
       ends = λ t k b x. same_number (line_segment tables b x) (route_of tables t k);
     }

@@ -12,10 +12,22 @@ ghost use Rattle.rl_model.specs.Network.{IsNetwork};
 ghost use Rattle.rl_tables.specs.declared.table.Tables.{Tables};
 ghost use Rattle.rl_tables.specs.Kept.{IsLine};
 ghost use Rattle.rl_tables.specs.Tables.{AreTablesOf};
+ghost use Rattle.rl_words.specs.Word.{Word, kind_of};
+ghost use Rattle.rl_tables.specs.declared.table.BoxTable.{BoxTable};
+ghost use Rattle.rl_tables.specs.declared.table.TrainTable.{TrainTable};
+ghost use Rattle.rl_train.specs.declared.mind.TrainMind.{TrainMind};
+ghost use Rattle.rl_train.specs.Steps.{TrainStep};
+ghost use Rattle.rl_box.specs.declared.mind.BoxMind.{BoxMind};
+ghost use Rattle.rl_box.specs.Steps.{BoxStep};
+ghost use Rattle.rl_track.specs.declared.track.TrackMind.{TrackMind};
+ghost use Rattle.rl_track.specs.Track.{TrackStep};
+ghost use Rattle.rl_track.specs.declared.machine.MachineMind.{MachineMind};
+ghost use Rattle.rl_track.specs.Machine.{MachineStep};
+ghost use Rattle.rl_protocol.specs.Sentences.{HasWord, with_train, with_track, with_box, Makes, HasLine};
 ghost use Rattle.rl_protocol.specs.TableLine.{line_of};
 ghost use Rattle.rl_protocol.specs.Line.{Line, IsConsistent};
 ghost use Rattle.rl_protocol.specs.State.{State, start};
-ghost use Rattle.rl_protocol.specs.Minds.{box, at_rest};
+ghost use Rattle.rl_protocol.specs.Minds.{train, box, at_rest};
 ghost use Rattle.rl_protocol.specs.Steps.{Step, Fits, next};
 ghost use Rattle.rl_protocol.specs.StepMoves.{move_of};
 ghost use Rattle.rl_protocol.specs.Runs.{state_after, IsRun, moves_of};
@@ -109,4 +121,25 @@ pub fn counted_steps()
         → length (moves_of line steps) ≤ 10 * attempts_posted tries (state_after line tries steps) trains }
     ensures posted { (line : Line) (tries trains : ℕ) (steps : List Step)
         → attempts_posted tries (state_after line tries steps) trains ≤ trains * tries }
+{}
+
+/// What the sentences of a node relate, seen in a state that agrees, is a step that fits it, and that leaves it with
+/// that mind and that word. A box at work has a line at the word at which it looks.
+pub fn sentences_as_steps()
+    ensures trains { (tables : Tables) (s : State) (t : ℕ) (table : TrainTable) (w v : Word) (mind : TrainMind)
+        → IsLine tables → slice_get tables.trains t ≡ Some table
+        → TrainStep table (s.trains t) w v mind → HasWord s w
+        → Makes (line_of tables) s (nodes.Train (train t)) v (with_train s t mind) }
+    ensures tracks { (line : Line) (s : State) (t : ℕ) (w v : Word) (mind : TrackMind)
+        → TrackStep (train t) (s.tracks t) w v mind → HasWord s w
+        → Makes line s (nodes.Track (train t)) v (with_track s t mind) }
+    ensures boxes { (tables : Tables) (tries : ℕ) (s : State) (b : ℕ) (table : BoxTable) (w v : Word) (mind : BoxMind)
+        → IsLine tables → Agrees (line_of tables) tries s → slice_get tables.boxes b ≡ Some table
+        → BoxStep table (s.boxes b) w v mind → HasWord s w
+        → Makes (line_of tables) s (nodes.Box (box b)) v (with_box s b mind) }
+    ensures machines { (line : Line) (s : State) (b : ℕ) (before after : MachineMind) (w v : Word)
+        → MachineStep (box b) before w v after → HasWord s w → Makes line s (nodes.Machine (box b)) v s }
+    ensures at_work { (tables : Tables) (tries : ℕ) (s : State) (b : ℕ) (table : BoxTable) (w : Word)
+        → IsLine tables → Agrees (line_of tables) tries s → slice_get tables.boxes b ≡ Some table
+        → word_at_work b (s.boxes b).work ≡ Some (kind_of w) → HasWord s w → HasLine table (s.boxes b) w }
 {}

@@ -11,5 +11,5 @@ pub mod laws;
 
 pub use laws::{
     agreement, boxes_at_work, counted_refusals, counted_steps, lines_of_tables, safe_runs_of_steps,
-    trains_at_rest,
+    sentences_as_steps, trains_at_rest,
 };
