@@ -1,5 +1,5 @@
 -- The table that is written for a draft is read as that draft.
-use Rattle.std.proofs.Common.{◌≡◌, ℕ, ◌+◌, ◌≤◌, List, [], ◌∷◌, ◌++◌, length, Option, Some, None, Ok, IsUtf8, refl, ap, ◌∙◌, sym, append_assoc, append-nil}
+use Rattle.std.proofs.Common.{◌≡◌, ℕ, ◌≤◌, List, [], ◌∷◌, ◌++◌, length, Option, Some, None, Ok, IsUtf8, refl, ap, ◌∙◌, sym, append_assoc, append-nil}
 use Rattle.std.proofs.Common.{arith}
 use Rattle.rl_base.specs.Draft.{HasNames}
 use Rattle.rl_base.specs.declared.draft.Draft.{Draft}
@@ -21,7 +21,7 @@ use Rattle.rl_syntax.proofs.KeyFirst.{stop, key_first}
 use Rattle.rl_syntax.proofs.Order.{first-none}
 use Rattle.rl_syntax.proofs.Spelled.{draft_says}
 use Rattle.rl_syntax.proofs.Unique.{named_again, side_again}
-use Rattle.toml.specs.Data.{Data, table, Items, Members, items_depth, members_depth}
+use Rattle.toml.specs.Data.{Data, table, Members, items_depth, members_depth}
 use Rattle.toml.specs.Parse.{parse_document}
 use Rattle.toml_parser.specs.Strings.{recursion_limit}
 

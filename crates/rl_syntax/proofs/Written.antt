@@ -1,12 +1,11 @@
 -- What is written for a draft: texts, lists and tables, one step of a loop at a time.
-use Rattle.std.proofs.Common.{◌≡◌, ℕ, zero, suc, ◌+◌, ◌<◌, Bool, true, false, List, [], ◌∷◌, ◌++◌, length, get_or, take, slice_index, String, Global, Ordering}
+use Rattle.std.proofs.Common.{◌≡◌, ℕ, zero, suc, ◌+◌, ◌<◌, Bool, true, List, [], ◌∷◌, ◌++◌, length, get_or, take, slice_index, String, Global, Ordering}
 use Rattle.std.proofs.Common.{Less, Equal, Greater, string_bytes, IsUtf8, refl, ap, sym, ◌∙◌, arith}
-use Rattle.std.proofs.lemmas.Bool.{and_parts, both_ways}
+use Rattle.std.proofs.lemmas.Bool.{and_parts}
 use Rattle.std.proofs.lemmas.Bool.Decides.{nat_tests}
 use Rattle.std.proofs.lemmas.List.{take_more}
 use Rattle.std.proofs.lemmas.Str.{IsUtf8-from_ascii}
 use Rattle.std.specs.BTreeMap.{insert_entry}
-use Rattle.std.specs.Cmp.Lexicographic.{slice_cmp}
 use Rattle.std.specs.List.{list_all}
 use Rattle.std.specs.Ordering.{match_ordering}
 use Rattle.std.specs.String.{string_cmp}
@@ -18,7 +17,7 @@ use Rattle.rl_base.specs.declared.kind.Side.{Side}
 use Rattle.rl_base.specs.declared.kind.Side.TheVariants.{Left, Right}
 use Rattle.rl_syntax.specs.DraftTable.{put, tables}
 use Rattle.rl_syntax.specs.Spelling.{texts}
-use Rattle.toml.specs.Data.{Data, string, array, table, Items, no_items, item, push_item, Members, no_members, member}
+use Rattle.toml.specs.Data.{string, table, item, push_item, Members, member}
 use Rattle.toml.specs.View.{view, items_view, members_view}
 use Rattle.toml.specs.declared.value.Value.{Value}
 use Rattle.toml.proofs.Views.{Entry, items_view-push}

@@ -2,7 +2,7 @@
 use Rattle.std.specs.Prelude.{◌≡◌, ℕ, Option, Some, None, Result, Ok, Err, if◌then◌else◌, List}
 use Rattle.std.specs.Str.{is_utf8}
 use Rattle.rl_syntax.specs.declared.refusal.SyntaxRefusal.{SyntaxRefusal}
-use Rattle.rl_syntax.specs.declared.refusal.SyntaxRefusal.TheVariants.{TooLong, NotToml, Key, BadName, NoMemory}
+use Rattle.rl_syntax.specs.declared.refusal.SyntaxRefusal.TheVariants.{NotToml, NoMemory}
 use Rattle.toml.specs.Data.{Members}
 use Rattle.toml.specs.Parse.{parse_document}
 

@@ -2,7 +2,7 @@
 use Rattle.std.specs.Prelude.{◌≡◌, ℕ, Option, Some, None, Result, Ok, Err, List, [], ◌∷◌, ◌++◌, length}
 use Rattle.rl_base.specs.declared.place.Place.{Place}
 use Rattle.rl_syntax.specs.declared.refusal.SyntaxRefusal.{SyntaxRefusal}
-use Rattle.rl_syntax.specs.declared.refusal.SyntaxRefusal.TheVariants.{TooLong, NotToml, Key, BadName, NoMemory}
+use Rattle.rl_syntax.specs.declared.refusal.SyntaxRefusal.TheVariants.{Key, NoMemory}
 use Rattle.toml.specs.Data.{Data, Items, no_items, item}
 
 abbrev pub Read : Type 0 → Type 0
