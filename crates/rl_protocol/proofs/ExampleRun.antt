@@ -1,8 +1,8 @@
 -- The run of one train on the line of two segments fits step by step.
 use Rattle.std.proofs.Common.{◌≡◌, true, refl}
-use Rattle.rl_model.specs.Drafts.{network_of}
-use Rattle.rl_model.specs.Examples.{one_train}
-use Rattle.rl_model.proofs.Networks.{IsNetwork-accepted}
+use Rattle.rl_drafts.specs.Drafts.{network_of}
+use Rattle.rl_drafts.specs.Examples.{one_train}
+use Rattle.rl_drafts.proofs.Networks.{IsNetwork-accepted}
 use Rattle.rl_tables.specs.Examples.{one_train_tables}
 use Rattle.rl_tables.proofs.Lines.{is_line}
 use Rattle.rl_tables.proofs.ExampleTables.{example_tables}

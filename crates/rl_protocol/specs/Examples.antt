@@ -4,7 +4,7 @@ use Rattle.rl_base.specs.declared.kind.Side.TheVariants.{Left}
 use Rattle.rl_base.specs.declared.job.Verb.TheVariants.{Reserve, Release, Lock, Unlock}
 use Rattle.rl_words.specs.declared.mail.Letter.{Letter}
 use Rattle.rl_words.specs.Mail.{about_arm, about_passage}
-use Rattle.rl_model.specs.Examples.{switch_box}
+use Rattle.rl_drafts.specs.Examples.{switch_box}
 use Rattle.rl_tables.specs.Examples.{arm, one_train_tables}
 use Rattle.rl_protocol.specs.Line.{Line}
 use Rattle.rl_protocol.specs.TableLine.{line_of}

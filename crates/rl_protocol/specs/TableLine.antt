@@ -8,7 +8,7 @@ use Rattle.rl_tables.specs.declared.table.TrainTable.{TrainTable}
 use Rattle.rl_tables.specs.declared.table.Tables.{Tables}
 use Rattle.rl_tables.specs.Kept.{line_kind, line_segment}
 use Rattle.rl_tables.specs.Starts.{holder_of}
-use Rattle.rl_model.specs.Examples.{seg, switch_box}
+use Rattle.rl_drafts.specs.Examples.{seg, switch_box}
 use Rattle.rl_tables.specs.Examples.{arm}
 use Rattle.rl_protocol.specs.Line.{Line, same_number}
 

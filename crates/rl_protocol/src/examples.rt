@@ -1,7 +1,7 @@
 ghost use Rattle.std.specs.Prelude.{◌≡◌, [], ◌∷◌, true};
 ghost use Rattle.rl_model.specs.declared.moves.Move.TheVariants as moves;
-ghost use Rattle.rl_model.specs.Drafts.{network_of};
-ghost use Rattle.rl_model.specs.Examples.{one_train, seg, switch_box, train, eight_moves};
+ghost use Rattle.rl_drafts.specs.Drafts.{network_of};
+ghost use Rattle.rl_drafts.specs.Examples.{one_train, seg, switch_box, train, eight_moves};
 ghost use Rattle.rl_protocol.specs.Minds.{at_rest};
 ghost use Rattle.rl_protocol.specs.Runs.{state_after, IsRun, moves_of};
 ghost use Rattle.rl_protocol.specs.Worlds.{IsRailway};
