@@ -6,8 +6,10 @@
 
 pub mod cores;
 mod look;
+pub mod moves;
 mod starts;
 mod turns;
 
 pub use cores::Core;
+pub use moves::move_of;
 pub use rl_runs::Mind;
