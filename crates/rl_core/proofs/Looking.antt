@@ -49,22 +49,22 @@ train_rests tables c n scan t x m at there is target = rw is (train_looks tables
 pub train_looked : (tables : Tables) (c : CoreState) (n scan w was p : ℕ) (t : TrainId) (x : TrainTable) (m : TrainMind) (result : Option (ℕ × TrainMind)) → IsLine tables → node_at (layout_of tables) n ≡ Some (nodes.Train t) → slice_get tables.trains t.0 ≡ Some x → c.minds n ≡ Train m → option_map (word_number (layout_of tables)) (train_target x m) ≡ Some w → slice_get c.words w ≡ Some was → p ≡ payload_in was → result ≡ option_and_then (λ kind. train_step x m kind p) (train_target x m) → Looked tables c n scan w was (as_mind Train result)
 train_looked tables c n scan w was p t x m result line at there is target word payload acts =
     looked tables c n scan w was p (Train m) (as_mind Train result) is (train_looks tables n scan t x m (Some w) at there (sym target)) word payload
-      (train_acts tables n w p t x m result line at there target acts)
+    (train_acts tables n w p t x m result line at there target acts)
 
 pub track_looked : (tables : Tables) (c : CoreState) (n scan w was p : ℕ) (t : TrainId) (m : TrackMind) (result : Option (ℕ × TrackMind)) → node_at (layout_of tables) n ≡ Some (nodes.Track t) → c.minds n ≡ Track m → w ≡ word_number (layout_of tables) (track_target t m) → slice_get c.words w ≡ Some was → p ≡ payload_in was → result ≡ track_step t m (track_target t m) p → Looked tables c n scan w was (as_mind Track result)
 track_looked tables c n scan w was p t m result at is target word payload acts =
     looked tables c n scan w was p (Track m) (as_mind Track result) is (track_looks tables n scan w t m at target) word payload
-      (track_acts tables n w p t m result at target acts)
+    (track_acts tables n w p t m result at target acts)
 
 pub box_looked : (tables : Tables) (c : CoreState) (n scan w was p : ℕ) (b : BoxId) (x : BoxTable) (m : BoxMind) (result : Option (ℕ × BoxMind)) → IsLine tables → node_at (layout_of tables) n ≡ Some (nodes.Box b) → slice_get tables.boxes b.0 ≡ Some x → IsBoxMind (layout_of tables) x m → c.minds n ≡ Box m → w ≡ word_number (layout_of tables) (box_target (layout_of tables) x m scan) → slice_get c.words w ≡ Some was → p ≡ payload_in was → ((kind : WordKind) → HasWord (layout_of tables) kind → word_number (layout_of tables) kind ≡ w → result ≡ box_step x m kind p) → Looked tables c n scan w was (as_mind Box result)
 box_looked tables c n scan w was p b x m result line at there sound is target word payload acts =
     looked tables c n scan w was p (Box m) (as_mind Box result) is (box_looks tables n scan w b x m at there target) word payload
-      (box_acts tables n w p scan b x m result line at there sound target acts)
+    (box_acts tables n w p scan b x m result line at there sound target acts)
 
 pub machine_looked : (tables : Tables) (c : CoreState) (n scan w was p : ℕ) (b : BoxId) (m : MachineMind) (result : Option (ℕ × MachineMind)) → node_at (layout_of tables) n ≡ Some (nodes.Machine b) → c.minds n ≡ Machine m → w ≡ word_number (layout_of tables) (machine_target b) → slice_get c.words w ≡ Some was → p ≡ payload_in was → result ≡ machine_step b m (machine_target b) p → Looked tables c n scan w was (as_mind Machine result)
 machine_looked tables c n scan w was p b m result at is target word payload acts =
     looked tables c n scan w was p (Machine m) (as_mind Machine result) is (machine_looks tables n scan w b m at target) word payload
-      (machine_acts tables n w p b m result at target acts)
+    (machine_acts tables n w p b m result at target acts)
 
 -- the mind that is looked with is well formed
 pub box_sound : (tables : Tables) (c : CoreState) (k n : ℕ) (b : BoxId) (x : BoxTable) (m : BoxMind) → IsSound tables k c → node_at (layout_of tables) n ≡ Some (nodes.Box b) → c.minds n ≡ Box m → slice_get tables.boxes b.0 ≡ Some x → IsBoxMind (layout_of tables) x m

@@ -29,6 +29,7 @@ table_put xs n v d within =
   where
     put_same : {A : Type 0} (f : ℕ → A) (n : ℕ) (v : A) → put f n v n ≡ v
     put_same f n v = grind (arith, nat_tests)
+
     put_other : {A : Type 0} (f : ℕ → A) (n : ℕ) (v : A) (m : ℕ) → (m ≡ n → ⊥) → put f n v m ≡ f m
     put_other f n v m other = rw (ne_eqb m n other) refl
 
@@ -43,9 +44,9 @@ mind_made core n w was payload mind step = rw step refl
 state_made : (core : Core) (n w was payload : ℕ) (mind : Mind) → HasSizes core → n < node_count (layout_of core.line) → node_step core.line n ((state_of core).minds n) w (payload_in was) ≡ Some (payload, mind) → state_of (made core n w was payload mind) ≡ after core.line (state_of core) (event_in core n w was payload)
 state_made core n w was payload mind sizes there step =
     let minds : (λ m. slice_index_or (slice_set core.minds n mind) m (Machine record {})) ≡ put (λ m. slice_index_or core.minds m (Machine record {})) n mind =
-      table_put core.minds n mind (Machine record {}) (omega (arith, sizes.minds)) in
+    table_put core.minds n mind (Machine record {}) (omega (arith, sizes.minds)) in
     let clocks : (λ m. slice_index_or (slice_set core.clocks n (stamp_of core n was)) m 0) ≡ put (λ m. slice_index_or core.clocks m 0) n (stamp_of core n was) =
-      table_put core.clocks n (stamp_of core n was) 0 (omega (arith, sizes.clocks)) in
+    table_put core.clocks n (stamp_of core n was) 0 (omega (arith, sizes.clocks)) in
     rw (minds, clocks, mind_made core n w was payload mind step) refl
 
 -- the core after the step is reached by the run with the event

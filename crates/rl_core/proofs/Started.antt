@@ -56,8 +56,13 @@ same_mind tables tries minds n are =
 abbrev pub core_at : Tables → ℕ → List Mind → Core
 core_at tables tries minds =
     record {
-      line = tables; tries = tries; words = start_words tables (word_count (layout_of tables)); minds = minds;
-      clocks = replicate (node_count (layout_of tables)) 0; scans = replicate (node_count (layout_of tables)) 0; events = 0;
+      line = tables;
+      tries = tries;
+      words = start_words tables (word_count (layout_of tables));
+      minds = minds;
+      clocks = replicate (node_count (layout_of tables)) 0;
+      scans = replicate (node_count (layout_of tables)) 0;
+      events = 0;
     }
 
 pub start_leads : (tables : Tables) (tries : ℕ) (minds : List Mind) → AreStartMinds tables tries (node_count (layout_of tables)) minds → LeadsTo start_drive (core_at tables tries minds)

@@ -67,15 +67,16 @@ leads_advanced core drive n there leads =
       run = leads.run;
       state = leads.state;
       scans = λ m within.
-        elim (cases_eq m n) [
-          | inl same ↦ rw (same, at, put_same drive.scans n (next_place core.line (drive.scans n))) (get_set_same core.scans n (drive.scans n) (next_place core.line (drive.scans n)) here)
-          | inr other ↦ rw (put_other drive.scans n (next_place core.line (drive.scans n)) m other) (get_set_other core.scans n m _ other ∙ leads.scans m within)
-        ];
+          elim (cases_eq m n) [
+            | inl same ↦ rw (same, at, put_same drive.scans n (next_place core.line (drive.scans n))) (get_set_same core.scans n (drive.scans n) (next_place core.line (drive.scans n)) here)
+            | inr other ↦ rw (put_other drive.scans n (next_place core.line (drive.scans n)) m other) (get_set_other core.scans n m _ other ∙ leads.scans m within)
+          ];
       events = leads.events;
     }
   where
     put_same : (f : ℕ → ℕ) (n v : ℕ) → put f n v n ≡ v
     put_same f n v = grind (arith, nat_tests)
+
     put_other : (f : ℕ → ℕ) (n v m : ℕ) → (m ≡ n → ⊥) → put f n v m ≡ f m
     put_other f n v m other = rw (ne_eqb m n other) refl
 
@@ -92,12 +93,12 @@ leads_by true core drive n scan Rests sizes there leads is = leads_advanced core
 leads_by true core drive n scan (Idles w was) sizes there leads is = leads_advanced core drive n there leads
 leads_by true core drive n scan (Steps w was payload mind) sizes there leads is =
     leads_advanced (made core n w.0 was payload mind) (record drive { events = event_in core n w.0 was payload ∷ drive.events }) n there
-      (leads_looked core drive n scan (Steps w was payload mind) sizes there leads is)
+    (leads_looked core drive n scan (Steps w was payload mind) sizes there leads is)
 
 pub leads_turned : (core : Core) (drive : Drive) (n scan : ℕ) (look : Look) → HasSizes core → n < node_count (layout_of core.line) → LeadsTo drive core → drive.scans n ≡ scan → IsLook core.line (state_of core) n scan look → LeadsTo (turn_of core.line core.tries drive n) (after_turn core n look)
 leads_turned core drive n scan look sizes there leads same is =
     rw (turn_looked core drive n scan look leads same is)
-      (leads_by (is_ready ((state_of core).minds n)) core drive n scan look sizes there leads is)
+    (leads_by (is_ready ((state_of core).minds n)) core drive n scan look sizes there leads is)
 
 -- the core after the turn, by what the turn's calls leave
 pub turned_is : (core mid new : Core) (n : ℕ) (look : Look) (ready : Bool) → mid ≡ after_look core n look → ready ≡ is_ready ((state_of core).minds n) → new ≡ (if ready then advanced mid n else mid) → new ≡ after_turn core n look

@@ -159,7 +159,14 @@ impl<'a> Core<'a> {
     }
 
     /// Makes the step of the node on the word: the word, the mind and the clock of the node are new.
-    pub(crate) fn step(&mut self, node: NodeNo, w: WordNo, was: u64, payload: u32, mind: Mind) -> Event
+    pub(crate) fn step(
+        &mut self,
+        node: NodeNo,
+        w: WordNo,
+        was: u64,
+        payload: u32,
+        mind: Mind,
+    ) -> Event
         requires there { node.0 < node_count (layout_of self.old.line) }
         requires few { self.old.events < 4294967295 }
         requires word { slice_get self.old.words w.0 ≡ Some was }

@@ -60,7 +60,13 @@ fn row_of(line: &Line, t: TrainId, k: u32) -> Option<StepRow>
 }
 
 /// An arm that was free and is held was reserved; one that was held and is free was released.
-fn arm_move(line: &Line, b: BoxId, x: Arm, was: Option<TrainId>, now: Option<TrainId>) -> Option<Move>
+fn arm_move(
+    line: &Line,
+    b: BoxId,
+    x: Arm,
+    was: Option<TrainId>,
+    now: Option<TrainId>,
+) -> Option<Move>
     ensures { result ≡ arm_move line.now b x.0 was now }
 {
     match (was, now) {

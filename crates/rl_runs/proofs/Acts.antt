@@ -115,7 +115,7 @@ box_acts tables n w payload scan b x m result line at there sound target is =
     let has : HasWord (layout_of tables) (box_target (layout_of tables) x m scan) = box_target_there (layout_of tables) x m.work scan (box_number tables b.0 x line there) sound.work in
     let word : word_at (layout_of tables) w ≡ Some (box_target (layout_of tables) x m scan) = rw target (word_at-number (layout_of tables) (box_target (layout_of tables) x m scan) has) in
     box_step_at tables n w payload b x m (box_target (layout_of tables) x m scan) at there word
-      ∙ ap (as_mind Box) (sym (is (box_target (layout_of tables) x m scan) has (sym target)))
+    ∙ ap (as_mind Box) (sym (is (box_target (layout_of tables) x m scan) has (sym target)))
 
 pub box_looks : (tables : Tables) (n scan w : ℕ) (b : BoxId) (x : BoxTable) (m : BoxMind) → node_at (layout_of tables) n ≡ Some (nodes.Box b) → slice_get tables.boxes b.0 ≡ Some x → w ≡ word_number (layout_of tables) (box_target (layout_of tables) x m scan) → target_of tables n (Box m) scan ≡ Some w
 box_looks tables n scan w b x m at there target = box_target_at tables n scan b x m at there ∙ ap Some (sym target)

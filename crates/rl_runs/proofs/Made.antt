@@ -37,10 +37,10 @@ made_at tables c e was made read step is =
 pub fits_made : (tables : Tables) (c : CoreState) (e : Event) → Fits tables c e → IsMade tables c e
 fits_made tables c e fits =
     let read = from_then
-      (λ was. option_map (λ (r : ℕ × Mind). event_at e.node.0 (next_stamp (c.clocks e.node.0) was) e.word.0 was r.0)
-        (node_step tables e.node.0 (c.minds e.node.0) e.word.0 (payload_in was)))
-      (slice_get c.words e.word.0) e fits in
+    (λ was. option_map (λ (r : ℕ × Mind). event_at e.node.0 (next_stamp (c.clocks e.node.0) was) e.word.0 was r.0)
+    (node_step tables e.node.0 (c.minds e.node.0) e.word.0 (payload_in was)))
+    (slice_get c.words e.word.0) e fits in
     let stepped = from_map
-      (λ (r : ℕ × Mind). event_at e.node.0 (next_stamp (c.clocks e.node.0) read.0) e.word.0 read.0 r.0)
-      (node_step tables e.node.0 (c.minds e.node.0) e.word.0 (payload_in read.0)) e read.2 in
+    (λ (r : ℕ × Mind). event_at e.node.0 (next_stamp (c.clocks e.node.0) read.0) e.word.0 read.0 r.0)
+    (node_step tables e.node.0 (c.minds e.node.0) e.word.0 (payload_in read.0)) e read.2 in
     made_at tables c e read.0 stepped.0 read.1 stepped.1 stepped.2

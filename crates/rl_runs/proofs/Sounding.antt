@@ -44,13 +44,13 @@ start_sound tables tries line few =
     record {
       size = size;
       words = λ w v is.
-        let within : w < length (start_words tables (word_count (layout_of tables))) = slice_get_within (start_words tables (word_count (layout_of tables))) w v is in
-        let there : slice_get (start_words tables (word_count (layout_of tables))) w ≡ Some (start_word tables w) = start_words-get tables (word_count (layout_of tables)) w (omega arith) in
-        let same : start_word tables w ≡ v = cc in
-        let fits : start_word tables w < 2 ^ 32 = start_fits tables w line in
-        let fits_v : v < 2 ^ 32 = rw (← same) fits in
-        let zero_stamp : stamp_in v ≡ 0 = small_stamp v fits_v in
-        (omega arith, omega arith);
+          let within : w < length (start_words tables (word_count (layout_of tables))) = slice_get_within (start_words tables (word_count (layout_of tables))) w v is in
+          let there : slice_get (start_words tables (word_count (layout_of tables))) w ≡ Some (start_word tables w) = start_words-get tables (word_count (layout_of tables)) w (omega arith) in
+          let same : start_word tables w ≡ v = cc in
+          let fits : start_word tables w < 2 ^ 32 = start_fits tables w line in
+          let fits_v : v < 2 ^ 32 = rw (← same) fits in
+          let zero_stamp : stamp_in v ≡ 0 = small_stamp v fits_v in
+          (omega arith, omega arith);
       clocks = λ n. omega arith;
       minds = λ n node at. start_minds tables tries n node few at;
     }
@@ -73,30 +73,30 @@ event_sound laws tables k c e line room sound fits =
     record {
       size = length-set c.words e.word.0 e.now ∙ sound.size;
       words = λ w v is.
-        elim (cases_eq w e.word.0) [
-          | inl same ↦
-            let there : slice_get (slice_set c.words e.word.0 e.now) e.word.0 ≡ Some e.now = get_set_same c.words e.word.0 e.was e.now made.was in
-            let here : slice_get (slice_set c.words e.word.0 e.now) e.word.0 ≡ Some v = rw same at is in
-            word_after tables k c e v room sound made kept.small le (cc)
-          | inr other ↦
-            let before : slice_get c.words w ≡ Some v = sym (get_set_other c.words e.word.0 w e.now other) ∙ is in
-            let old = sound.words w v before in
-            (old.0, omega (arith, old.1))
-        ];
+          elim (cases_eq w e.word.0) [
+            | inl same ↦
+                let there : slice_get (slice_set c.words e.word.0 e.now) e.word.0 ≡ Some e.now = get_set_same c.words e.word.0 e.was e.now made.was in
+                let here : slice_get (slice_set c.words e.word.0 e.now) e.word.0 ≡ Some v = rw same at is in
+                word_after tables k c e v room sound made kept.small le (cc)
+            | inr other ↦
+                let before : slice_get c.words w ≡ Some v = sym (get_set_other c.words e.word.0 w e.now other) ∙ is in
+                let old = sound.words w v before in
+                (old.0, omega (arith, old.1))
+          ];
       clocks = λ n.
-        let old : c.clocks n ≤ k = sound.clocks n in
-        elim (cases_eq n e.node.0) [
-          | inl same ↦ grind (arith, nat_tests)
-          | inr other ↦ grind (arith, nat_tests)
-        ];
+          let old : c.clocks n ≤ k = sound.clocks n in
+          elim (cases_eq n e.node.0) [
+            | inl same ↦ grind (arith, nat_tests)
+            | inr other ↦ grind (arith, nat_tests)
+          ];
       minds = λ n at_n at.
-        elim (cases_eq n e.node.0) [
-          | inl same ↦
-            let here : node_at (layout_of tables) e.node.0 ≡ Some at_n = rw (← same) at in
-            let as_one : kept.node ≡ at_n = same_some (node_at (layout_of tables) e.node.0) kept.node at_n kept.at here in
-            rw (same, put_same c.minds e.node.0 (mind_after tables c e), made.mind, ← as_one) kept.mind
-          | inr other ↦ rw (put_other c.minds e.node.0 (mind_after tables c e) n other) (sound.minds n at_n at)
-        ];
+          elim (cases_eq n e.node.0) [
+            | inl same ↦
+                let here : node_at (layout_of tables) e.node.0 ≡ Some at_n = rw (← same) at in
+                let as_one : kept.node ≡ at_n = same_some (node_at (layout_of tables) e.node.0) kept.node at_n kept.at here in
+                rw (same, put_same c.minds e.node.0 (mind_after tables c e), made.mind, ← as_one) kept.mind
+            | inr other ↦ rw (put_other c.minds e.node.0 (mind_after tables c e) n other) (sound.minds n at_n at)
+          ];
     }
 
 -- the minds alone, after a run of any length
@@ -108,13 +108,13 @@ event_minded laws tables c e line minded fits =
     let made : IsMade tables c e = fits_made tables c e fits in
     let kept = step_keeps laws tables e.node.0 e.word.0 (payload_in e.was) (c.minds e.node.0) made.made line (minded e.node.0) made.step in
     λ n at_n at.
-      elim (cases_eq n e.node.0) [
-        | inl same ↦
+    elim (cases_eq n e.node.0) [
+      | inl same ↦
           let here : node_at (layout_of tables) e.node.0 ≡ Some at_n = rw (← same) at in
           let as_one : kept.node ≡ at_n = same_some (node_at (layout_of tables) e.node.0) kept.node at_n kept.at here in
           rw (same, put_same c.minds e.node.0 (mind_after tables c e), made.mind, ← as_one) kept.mind
-        | inr other ↦ rw (put_other c.minds e.node.0 (mind_after tables c e) n other) (minded n at_n at)
-      ]
+      | inr other ↦ rw (put_other c.minds e.node.0 (mind_after tables c e) n other) (minded n at_n at)
+    ]
 
 pub runs_minded : StepsKeep → (tables : Tables) (tries : ℕ) (events : List Event) → IsLine tables → tries ≤ 1000 → IsRun tables tries events → AreMinded tables (state tables tries events)
 runs_minded laws tables tries [] line few run = λ n node at. start_minds tables tries n node few at
@@ -125,4 +125,4 @@ pub runs_sound : StepsKeep → (tables : Tables) (tries : ℕ) (events : List Ev
 runs_sound laws tables tries [] line few room run = start_sound tables tries line few
 runs_sound laws tables tries (e ∷ earlier) line few room run =
     event_sound laws tables (length earlier) (state tables tries earlier) e line room
-      (runs_sound laws tables tries earlier line few (omega arith) run.0) run.1
+    (runs_sound laws tables tries earlier line few (omega arith) run.0) run.1

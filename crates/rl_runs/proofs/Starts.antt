@@ -15,10 +15,10 @@ start_words-get tables zero w within = absurd (omega arith)
 start_words-get tables (suc n) w within =
     elim (cases_eq w n) [
       | inl same ↦
-        let e : length (start_words tables n) ≡ n = start_words-length tables n in
-        let P : ℕ → Type 0 = λ k. slice_get (start_words tables n ++ start_word tables n ∷ []) k ≡ Some (start_word tables n) in
-        rw same (subst P e (slice_get-push (start_words tables n) (start_word tables n)))
+          let e : length (start_words tables n) ≡ n = start_words-length tables n in
+          let P : ℕ → Type 0 = λ k. slice_get (start_words tables n ++ start_word tables n ∷ []) k ≡ Some (start_word tables n) in
+          rw same (subst P e (slice_get-push (start_words tables n) (start_word tables n)))
       | inr other ↦
-        let e : length (start_words tables n) ≡ n = start_words-length tables n in
-        slice_get-append (start_words tables n) (start_word tables n ∷ []) w (omega arith) ∙ start_words-get tables n w (omega arith)
+          let e : length (start_words tables n) ≡ n = start_words-length tables n in
+          slice_get-append (start_words tables n) (start_word tables n ∷ []) w (omega arith) ∙ start_words-get tables n w (omega arith)
     ]

@@ -70,7 +70,7 @@ step_in tables c n w = option_and_then (λ was. node_step tables n (c.minds n) w
 abbrev pub event_of : Tables → CoreState → ℕ → ℕ → Option Event
 event_of tables c n w =
     option_and_then (λ was. option_map (λ r. event_at n (next_stamp (c.clocks n) was) w was r.0)
-      (node_step tables n (c.minds n) w (payload_in was))) (slice_get c.words w)
+    (node_step tables n (c.minds n) w (payload_in was))) (slice_get c.words w)
 
 -- the mind of the event's node after it
 abbrev pub mind_after : Tables → CoreState → Event → Mind

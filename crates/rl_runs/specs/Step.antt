@@ -38,7 +38,7 @@ step_of tables node mind word payload = None
 unfoldable pub node_step : Tables → ℕ → Mind → ℕ → ℕ → Option (ℕ × Mind)
 node_step tables n mind w payload =
     option_and_then (λ node. option_and_then (λ word. step_of tables node mind word payload) (word_at (layout_of tables) w))
-      (node_at (layout_of tables) n)
+    (node_at (layout_of tables) n)
 
 -- a box that has nothing in hand
 abbrev pub has_nothing : Work → Bool

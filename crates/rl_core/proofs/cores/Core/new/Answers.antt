@@ -19,4 +19,4 @@ invariant_of-result c =
 pub returns-clause-start : goal.returns-clause-start
 returns-clause-start c =
     rw (c.in_ok-words.ensures, c.in_ok-clocks.ensures, c.in_ok-scans.ensures)
-      (start_leads c.args.line.now c.args.tries c.in_ok-minds.minds.items c.in_ok-minds.ensures.minds)
+    (start_leads c.args.line.now c.args.tries c.in_ok-minds.minds.items c.in_ok-minds.ensures.minds)

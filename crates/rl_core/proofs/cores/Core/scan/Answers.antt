@@ -9,4 +9,4 @@ returns-clause-place c = sym (get_or_from_slice_get c.args.self.now.scans c.args
 pub returns-clause-within : goal.returns-clause-within
 returns-clause-within c =
     rw (sym (get_or_from_slice_get c.args.self.now.scans c.args.node.0 c.scan_at.result 0 c.scan_at.ensures))
-      (place_within c.args.self.now c.args.node.0 c.reached.ensures c.requires)
+    (place_within c.args.self.now c.args.node.0 c.reached.ensures c.requires)

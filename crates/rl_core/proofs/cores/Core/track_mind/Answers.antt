@@ -11,7 +11,7 @@ unreachable-requires c =
     let found = track_there c.args.self.now c.args.node.0 c.args.t c.mind_at.result.now c.sound.ensures.sound c.requires.at c.mind_at.ensures in
     elim c.in-Train.is [
       | inl a ↦ cc (a.1, found.1)
-      | inr rest ↦ elim rest [ | inl b ↦ cc (b.1, found.1) | inr d ↦ cc (d.1, found.1) ]
+      | inr rest ↦ elim rest [ inl b ↦ cc (b.1, found.1) | inr d ↦ cc (d.1, found.1) ]
     ]
 
 pub returns : goal.returns
