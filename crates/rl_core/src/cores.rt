@@ -82,8 +82,8 @@ impl<'a> Core<'a> {
         self.events
     }
 
-    /// Some run leads to the core.
-    pub(crate) fn reached(&self)
+    /// Some run leads to the core: for the proofs of who uses it. It does nothing.
+    pub fn reached(&self)
         ensures { IsReached self.now }
     {
         let _events = &self.events;

@@ -1,6 +1,6 @@
 ghost use Rattle.std.specs.Prelude.{◌≡◌, ℕ, ◌<◌, ◌≤◌, ◌^◌, length, slice_get, slice_index_or, Some, None, if◌then◌else◌};
 ghost use Rattle.rl_base.specs.declared.layout.NodeKind.TheVariants as nodes;
-ghost use Rattle.rl_base.specs.Layout.{node_count, word_count};
+ghost use Rattle.rl_base.specs.Layout.{node_count, node_number, word_count};
 ghost use Rattle.rl_tables.specs.Starts.{layout_of};
 ghost use Rattle.rl_runs.specs.Numbers.{node_at};
 ghost use Rattle.rl_runs.specs.Step.{is_ready};
@@ -32,6 +32,18 @@ impl<'a> Core<'a> {
             Mind::Train(mind) => mind,
             Mind::Track(_) | Mind::Box(_) | Mind::Machine(_) => unreachable!(),
         }
+    }
+
+    /// The mind of the train.
+    pub fn train(&self, t: TrainId) -> TrainMind
+        requires there { t.0 < length self.now.line.trains }
+        requires few { self.now.events < 2 ^ 32 }
+        ensures { (state_of self.now).minds (node_number (layout_of self.now.line) (nodes.Train t)) ≡ Mind.Train result }
+    {
+        self.sound();
+        numbered();
+        let node = self.line().layout().node(NodeKind::Train(t));
+        *self.train_mind(node, t)
     }
 
     /// The mind of the node of a track.
