@@ -10,6 +10,7 @@ mod acceptance;
 mod arms;
 mod counts;
 mod ends;
+mod find;
 mod fits;
 mod index;
 mod names;
