@@ -1,1 +1,3 @@
 pub mod Words
+pub mod MoveNames
+pub mod Grammar

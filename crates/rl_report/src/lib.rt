@@ -4,8 +4,12 @@
 //! network and the forms of the lines, and not how a report came about.
 #![tactic(auto)]
 
+mod forms;
 pub mod lines;
+pub mod moves;
 pub mod report;
+mod words;
 
+pub use moves::read_move;
 pub use report::report_text;
 pub use rl_model::{Fate, Outcome, Outcomes, Report};

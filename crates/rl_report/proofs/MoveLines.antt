@@ -1,0 +1,33 @@
+-- The words of a move's line.
+use Rattle.std.proofs.Common.{◌≡◌, ℕ, List, [], ◌∷◌, ◌++◌, sym, ap, ◌∙◌}
+use Rattle.std.specs.List.{join_with_byte}
+use Rattle.std.proofs.lemmas.List.{append_cancel_right}
+use Rattle.rl_text.specs.Words.{words_of}
+use Rattle.rl_model.specs.declared.moves.Move.{Move}
+use Rattle.rl_model.specs.declared.network.NetworkPlan.{NetworkPlan}
+use Rattle.rl_model.specs.Moves.{IsMoveOf}
+use Rattle.rl_model.specs.Network.{IsNetwork}
+use Rattle.rl_model.specs.ReportText.{line_of, move_words, move_line}
+use Rattle.rl_report.specs.Grammar.{IsMoveLine}
+use Rattle.rl_report.proofs.NamedMoves.{IsNamed, named}
+use Rattle.rl_report.proofs.Plain.{plain_move, are_plain}
+use Rattle.rl_report.proofs.Joined.{words_of-joined, joined-words_of}
+
+-- the line of some words, where they are the words of the text
+line_from_words : (text : List ℕ) (words : List (List ℕ)) → words_of text ≡ words → text ++ 10 ∷ [] ≡ line_of words
+line_from_words text words e = ap (λ line. line ++ 10 ∷ []) (sym (joined-words_of text) ∙ ap (join_with_byte 32) e)
+
+pub move_line_from_words : (net : NetworkPlan) (text : List ℕ) (m : Move) → IsMoveOf net m → words_of text ≡ move_words net m → IsMoveLine net text m
+move_line_from_words net text m of e = record { of = of; line = line_from_words text (move_words net m) e }
+
+-- a move has a word, so its words are those of its line
+words_of_move : (net : NetworkPlan) (m : Move) → IsNetwork net → words_of (join_with_byte 32 (move_words net m)) ≡ move_words net m
+words_of_move net m network =
+    let is = named net m in
+    let plain = plain_move net m network in
+    let words = is.words in
+    rw words (words_of-joined _ is.others (rw words at plain))
+
+pub words_from_move_line : (net : NetworkPlan) (text : List ℕ) (m : Move) → IsNetwork net → IsMoveLine net text m → words_of text ≡ move_words net m
+words_from_move_line net text m network is =
+    ap words_of (append_cancel_right text (join_with_byte 32 (move_words net m)) (10 ∷ []) is.line) ∙ words_of_move net m network
