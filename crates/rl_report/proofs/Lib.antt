@@ -3,4 +3,4 @@ pub mod WordsOf
 pub mod NamedMoves
 pub mod Plain
 pub mod Joined
-pub mod MoveLines
+pub mod ReadLines

@@ -22,6 +22,7 @@ use Rattle.rl_model.specs.declared.report.Fate.TheVariants.{Arrived, Spent, Unde
 use Rattle.rl_model.specs.declared.report.Outcome.{Outcome}
 use Rattle.rl_model.specs.Network.{IsNetwork, segment_name, box_name, train_name}
 use Rattle.rl_model.specs.ReportText.{move_words, side_word, fate_word}
+use Rattle.rl_report.specs.Words.{outcome_words}
 
 -- bytes above the space, and so above LF
 abbrev pub is_plain : List ℕ → Bool
@@ -94,9 +95,6 @@ plain_move net (Enter t b s s2) h = rw (plain_train net t.0 h, plain_box net b.0
 plain_move net (Leave t s) h = rw (plain_train net t.0 h, plain_segment net s.0 h) refl
 plain_move net (Refuse t s b u) h = rw (plain_train net t.0 h, plain_segment net s.0 h, plain_box net b.0 h, plain_train net u.0 h) refl
 plain_move net (Bar t b u) h = rw (plain_train net t.0 h, plain_box net b.0 h, plain_train net u.0 h) refl
-
-abbrev pub outcome_words : NetworkPlan → ℕ → Outcome → List (List ℕ)
-outcome_words net t o = codes "train" ∷ train_name net t ∷ fate_word o.fate ∷ decimal o.made ∷ decimal o.refused ∷ []
 
 pub plain_outcome : (net : NetworkPlan) (t : ℕ) (o : Outcome) → IsNetwork net → o.made < 2 ^ 64 → o.refused < 2 ^ 64 → are_plain (outcome_words net t o) ≡ true
 plain_outcome net t o h made refused = rw (plain_train net t h, plain_fate o.fate, plain_decimal o.made made, plain_decimal o.refused refused) refl

@@ -7,9 +7,11 @@
 mod forms;
 pub mod lines;
 pub mod moves;
+pub mod outcomes;
 pub mod report;
 mod words;
 
 pub use moves::read_move;
+pub use outcomes::read_outcome;
 pub use report::report_text;
 pub use rl_model::{Fate, Outcome, Outcomes, Report};

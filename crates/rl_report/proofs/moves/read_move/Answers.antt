@@ -6,7 +6,7 @@ use Rattle.rl_model.specs.Moves.{IsMoveOf}
 use Rattle.rl_model.specs.Network.{IsNetwork}
 use Rattle.rl_model.specs.ReportText.{move_words}
 use Rattle.rl_report.specs.Grammar.{IsMoveLine}
-use Rattle.rl_report.proofs.MoveLines.{move_line_from_words, words_from_move_line}
+use Rattle.rl_report.proofs.ReadLines.{move_line_from_words, words_from_move_line}
 use Rattle.rl_report.proofs.moves.read_move.Goals as goal
 
 some : (net : NetworkPlan) (text : List ℕ) (words : List (List ℕ)) (o : Option Move) → words ≡ words_of text → IfSome o (λ m. IsMoveOf net m × (words ≡ move_words net m)) → IfSome o (IsMoveLine net text)

@@ -1,16 +1,18 @@
--- The words of a move's line.
-use Rattle.std.proofs.Common.{◌≡◌, ℕ, List, [], ◌∷◌, ◌++◌, sym, ap, ◌∙◌}
+-- The words of a move's line, and of a train's.
+use Rattle.std.proofs.Common.{◌≡◌, ℕ, ◌≤◌, ◌<◌, ◌^◌, length, codes, List, [], ◌∷◌, ◌++◌, sym, ap, ◌∙◌, arith}
 use Rattle.std.specs.List.{join_with_byte}
 use Rattle.std.proofs.lemmas.List.{append_cancel_right}
 use Rattle.rl_text.specs.Words.{words_of}
 use Rattle.rl_model.specs.declared.moves.Move.{Move}
 use Rattle.rl_model.specs.declared.network.NetworkPlan.{NetworkPlan}
+use Rattle.rl_model.specs.declared.report.Outcome.{Outcome}
 use Rattle.rl_model.specs.Moves.{IsMoveOf}
 use Rattle.rl_model.specs.Network.{IsNetwork}
-use Rattle.rl_model.specs.ReportText.{line_of, move_words, move_line}
-use Rattle.rl_report.specs.Grammar.{IsMoveLine}
+use Rattle.rl_model.specs.ReportText.{line_of, move_words, move_line, outcome_line}
+use Rattle.rl_report.specs.Words.{IsCount, outcome_words}
+use Rattle.rl_report.specs.Grammar.{IsMoveLine, IsOutcomeLine}
 use Rattle.rl_report.proofs.NamedMoves.{IsNamed, named}
-use Rattle.rl_report.proofs.Plain.{plain_move, are_plain}
+use Rattle.rl_report.proofs.Plain.{plain_move, plain_outcome, are_plain}
 use Rattle.rl_report.proofs.Joined.{words_of-joined, joined-words_of}
 
 -- the line of some words, where they are the words of the text
@@ -31,3 +33,17 @@ words_of_move net m network =
 pub words_from_move_line : (net : NetworkPlan) (text : List ℕ) (m : Move) → IsNetwork net → IsMoveLine net text m → words_of text ≡ move_words net m
 words_from_move_line net text m network is =
     ap words_of (append_cancel_right text (join_with_byte 32 (move_words net m)) (10 ∷ []) is.line) ∙ words_of_move net m network
+
+pub outcome_line_from_words : (net : NetworkPlan) (text : List ℕ) (t : ℕ) (o : Outcome) → t < length net.trains → IsCount o.made → IsCount o.refused
+    → words_of text ≡ outcome_words net t o → IsOutcomeLine net text t o
+outcome_line_from_words net text t o train made refused e =
+    record { train = train; made = made; refused = refused; line = line_from_words text (outcome_words net t o) e }
+
+pub words_from_outcome_line : (net : NetworkPlan) (text : List ℕ) (t : ℕ) (o : Outcome) → IsNetwork net → IsOutcomeLine net text t o
+    → words_of text ≡ outcome_words net t o
+words_from_outcome_line net text t o network is =
+    let plain = plain_outcome net t o network (small o.made is.made) (small o.refused is.refused) in
+    ap words_of (append_cancel_right text (join_with_byte 32 (outcome_words net t o)) (10 ∷ []) is.line) ∙ words_of-joined _ _ plain
+  where
+    small : (n : ℕ) → n ≤ 1000000 → n < 2 ^ 64
+    small n h = omega arith
