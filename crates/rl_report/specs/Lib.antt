@@ -1,3 +1,5 @@
 pub mod Words
 pub mod MoveNames
 pub mod Grammar
+pub mod Lines
+pub mod Reading

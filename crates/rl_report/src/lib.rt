@@ -8,6 +8,7 @@ mod forms;
 pub mod lines;
 pub mod moves;
 pub mod outcomes;
+pub mod reader;
 pub mod report;
 mod words;
 
