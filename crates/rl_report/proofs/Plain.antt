@@ -1,12 +1,12 @@
 -- The words of a report's lines have neither a space nor an LF.
-use Rattle.std.proofs.Common.{◌≡◌, ◌==◌, ℕ, ◌<◌, ◌≤◌, ◌^◌, Bool, true, false, nat_lt, ◌&&◌, List, [], ◌∷◌, Option, Some, None, slice_get, get_or, length, codes, decimal, IsTrue, refl, ap, ◌∙◌, arith}
+use Rattle.std.proofs.Common.{◌≡◌, ◌==◌, ℕ, ◌<◌, ◌≤◌, ◌^◌, Bool, true, false, nat_lt, ◌&&◌, List, [], ◌∷◌, ◌++◌, Option, Some, None, slice_get, get_or, length, codes, decimal, IsTrue, refl, ap, ◌∙◌, arith}
 use Rattle.std.specs.Char.{is_ascii_digit}
-use Rattle.std.specs.List.{list_all, All}
+use Rattle.std.specs.List.{list_all, All, join_with_byte}
 use Rattle.std.specs.Option.{option_map_or}
 use Rattle.std.proofs.lemmas.Bool.Decides.{nat_tests}
 use Rattle.std.proofs.lemmas.Fmt.{digits_decimal}
 use Rattle.std.proofs.lemmas.Grind.{common_steps}
-use Rattle.std.proofs.lemmas.List.Folds.{list_all_at}
+use Rattle.std.proofs.lemmas.List.Folds.{list_all_at, list_all-append}
 use Rattle.rl_base.specs.Name.{is_name, is_name_byte}
 use Rattle.rl_base.specs.declared.kind.Side.{Side}
 use Rattle.rl_base.specs.declared.kind.Side.TheVariants.{Left, Right}
@@ -99,13 +99,44 @@ plain_move net (Bar t b u) h = rw (plain_train net t.0 h, plain_box net b.0 h, p
 pub plain_outcome : (net : NetworkPlan) (t : ℕ) (o : Outcome) → IsNetwork net → o.made < 2 ^ 64 → o.refused < 2 ^ 64 → are_plain (outcome_words net t o) ≡ true
 plain_outcome net t o h made refused = rw (plain_train net t h, plain_fate o.fate, plain_decimal o.made made, plain_decimal o.refused refused) refl
 
--- plain bytes aren't this byte, if it is a space or less
-pub not_in_plain : (c : ℕ) (word : List ℕ) → c ≤ 32 → is_plain word ≡ true → All (λ b. (b == c) ≡ false) word
-not_in_plain c word low h k d l =
-    let above = at_place (λ b. nat_lt 32 b) word k d h l in
+-- bytes above a bound aren't a byte within it
+pub not_in_above : (c low : ℕ) (word : List ℕ) → c ≤ low → list_all (λ b. nat_lt low b) word ≡ true → All (λ b. (b == c) ≡ false) word
+not_in_above c low word within h k d l =
+    let above = at_place (λ b. nat_lt low b) word k d h l in
     other (get_or word k d) above
   where
     at_place : (test : ℕ → Bool) (w : List ℕ) (i v : ℕ) → list_all test w ≡ true → i < length w → test (get_or w i v) ≡ true
     at_place test w i v all within = grind (arith, common_steps, list_all_at test w i v)
-    other : (b : ℕ) → nat_lt 32 b ≡ true → (b == c) ≡ false
+    other : (b : ℕ) → nat_lt low b ≡ true → (b == c) ≡ false
     other b above = grind (arith, nat_tests)
+
+pub not_in_plain : (c : ℕ) (word : List ℕ) → c ≤ 32 → is_plain word ≡ true → All (λ b. (b == c) ≡ false) word
+not_in_plain c word within h = not_in_above c 32 word within h
+
+-- the bytes of plain words that are joined by spaces are above LF
+abbrev above_lf : List ℕ → Bool
+above_lf text = list_all (λ b. nat_lt 10 b) text
+
+plain_above_lf : (word : List ℕ) → is_plain word ≡ true → above_lf word ≡ true
+plain_above_lf [] h = refl
+plain_above_lf (b ∷ bs) h =
+    let first : nat_lt 32 b ≡ true = grind (arith, nat_tests) in
+    let others : is_plain bs ≡ true = grind (arith, nat_tests) in
+    let here : nat_lt 10 b ≡ true = grind (arith, nat_tests) in
+    let there = plain_above_lf bs others in
+    rw (here, there) refl
+
+joined_above_lf : (words : List (List ℕ)) → are_plain words ≡ true → above_lf (join_with_byte 32 words) ≡ true
+joined_above_lf [] h = refl
+joined_above_lf (word ∷ []) h =
+    let first : is_plain word ≡ true = grind (arith, nat_tests) in
+    plain_above_lf word first
+joined_above_lf (word ∷ next ∷ words) h =
+    let first : is_plain word ≡ true = grind (arith, nat_tests) in
+    let others : are_plain (next ∷ words) ≡ true = grind (arith, nat_tests) in
+    let here = plain_above_lf word first in
+    let there = joined_above_lf (next ∷ words) others in
+    rw (list_all-append, here, there) refl
+
+pub no_lf_in_joined : (words : List (List ℕ)) → are_plain words ≡ true → All (λ b. (b == 10) ≡ false) (join_with_byte 32 words)
+no_lf_in_joined words h = not_in_above 10 10 (join_with_byte 32 words) (omega arith) (joined_above_lf words h)

@@ -1,5 +1,5 @@
 -- The words of a move's line, and of a train's.
-use Rattle.std.proofs.Common.{◌≡◌, ℕ, ◌≤◌, ◌<◌, ◌^◌, length, codes, List, [], ◌∷◌, ◌++◌, sym, ap, ◌∙◌, arith}
+use Rattle.std.proofs.Common.{◌≡◌, ℕ, ◌≤◌, ◌<◌, ◌^◌, length, codes, List, [], ◌∷◌, ◌++◌, sym, ap, ◌∙◌, refl, get_or, slice_get, Option, Some, None, decimal, arith}
 use Rattle.std.specs.List.{join_with_byte}
 use Rattle.std.proofs.lemmas.List.{append_cancel_right}
 use Rattle.rl_text.specs.Words.{words_of}
@@ -7,12 +7,14 @@ use Rattle.rl_model.specs.declared.moves.Move.{Move}
 use Rattle.rl_model.specs.declared.network.NetworkPlan.{NetworkPlan}
 use Rattle.rl_model.specs.declared.report.Outcome.{Outcome}
 use Rattle.rl_model.specs.Moves.{IsMoveOf}
-use Rattle.rl_model.specs.Network.{IsNetwork}
+use Rattle.rl_model.specs.declared.network.Train.{Train}
+use Rattle.rl_model.specs.Network.{IsNetwork, train_name}
+use Rattle.rl_report.proofs.Within.{none_within}
 use Rattle.rl_model.specs.ReportText.{line_of, move_words, move_line, outcome_line}
 use Rattle.rl_report.specs.Words.{IsCount, outcome_words}
 use Rattle.rl_report.specs.Grammar.{IsMoveLine, IsOutcomeLine}
 use Rattle.rl_report.proofs.NamedMoves.{IsNamed, named}
-use Rattle.rl_report.proofs.Plain.{plain_move, plain_outcome, are_plain}
+use Rattle.rl_report.proofs.Plain.{plain_move, plain_outcome, plain_decimal, are_plain}
 use Rattle.rl_report.proofs.Joined.{words_of-joined, joined-words_of}
 
 -- the line of some words, where they are the words of the text
@@ -23,7 +25,7 @@ pub move_line_from_words : (net : NetworkPlan) (text : List ℕ) (m : Move) → 
 move_line_from_words net text m of e = record { of = of; line = line_from_words text (move_words net m) e }
 
 -- a move has a word, so its words are those of its line
-words_of_move : (net : NetworkPlan) (m : Move) → IsNetwork net → words_of (join_with_byte 32 (move_words net m)) ≡ move_words net m
+pub words_of_move : (net : NetworkPlan) (m : Move) → IsNetwork net → words_of (join_with_byte 32 (move_words net m)) ≡ move_words net m
 words_of_move net m network =
     let is = named net m in
     let plain = plain_move net m network in
@@ -47,3 +49,25 @@ words_from_outcome_line net text t o network is =
   where
     small : (n : ℕ) → n ≤ 1000000 → n < 2 ^ 64
     small n h = omega arith
+
+-- a number behind its word is cut from it again
+pub tries_words : (n : ℕ) → n ≤ 1000 → words_of (join_with_byte 32 (codes "tries" ∷ decimal n ∷ [])) ≡ codes "tries" ∷ decimal n ∷ []
+tries_words n h = words_of-joined (codes "tries") (decimal n ∷ []) (rw (plain_decimal n (omega arith)) refl)
+
+-- trains of one name are one train
+pub same_train : (net : NetworkPlan) (t u : ℕ) → IsNetwork net → t < length net.trains → u < length net.trains → train_name net t ≡ train_name net u → t ≡ u
+same_train net t u network t_in u_in e = from (slice_get net.trains t) (slice_get net.trains u) refl refl
+  where
+    from : (o p : Option Train) → slice_get net.trains t ≡ o → slice_get net.trains u ≡ p → t ≡ u
+    from None p is is2 = absurd (none_within net.trains t t_in is)
+    from (Some r) None is is2 = absurd (none_within net.trains u u_in is2)
+    from (Some r) (Some q) is is2 =
+        let first : train_name net t ≡ r.name = rw is refl in
+        let other : train_name net u ≡ q.name = rw is2 refl in
+        network.train_names t u r q is is2 (sym first ∙ e ∙ other)
+
+-- a train's line is no other's
+pub one_train : (net : NetworkPlan) (text : List ℕ) (t u : ℕ) (o p : Outcome) → IsNetwork net → IsOutcomeLine net text t o → IsOutcomeLine net text u p → t ≡ u
+one_train net text t u o p network is is2 =
+    let words : outcome_words net t o ≡ outcome_words net u p = sym (words_from_outcome_line net text t o network is) ∙ words_from_outcome_line net text u p network is2 in
+    same_train net t u network is.train is2.train (ap (λ ws. get_or ws 1 []) words)

@@ -1,4 +1,4 @@
-ghost use Rattle.std.specs.Prelude.{◌≡◌, ◌≢◌, ◌≤◌, ◌∷◌, [], ℕ, List, IfSome, IfNone, decimal};
+ghost use Rattle.std.specs.Prelude.{◌≡◌, ◌≢◌, ◌≤◌, ◌∷◌, [], ℕ, List, IfSome, IfNone, codes, decimal};
 ghost use Rattle.rl_base.specs.declared.ids.TrainId.{TrainId};
 ghost use Rattle.rl_model.specs.declared.report.Fate.{Fate};
 ghost use Rattle.rl_model.specs.declared.report.Outcome.{Outcome};
@@ -101,4 +101,27 @@ pub fn read_outcome(net: &Network, line: &[u8]) -> Option<(TrainId, Outcome)>
     // What acceptance gave, for the proof.
     let _trains = net.trains();
     read_outcome_words(&mut Words::new(line), net)
+}
+
+/// The number that the word writes, if it is one of attempts, from 1 to 1000.
+fn tries_of(word: &[u8]) -> Option<u32>
+    ensures some { IfSome result (λ n. (1 ≤ n) × (n ≤ 1000) × (word.now ≡ decimal n)) }
+    ensures none { IfNone result ((n : ℕ) → 1 ≤ n → n ≤ 1000 → word.now ≢ decimal n) }
+{
+    match read_number(word) {
+        Some(n) if 1 <= n && n <= 1000 => Some(n as u32),
+        _ => None,
+    }
+}
+
+/// Reads the words of the second line: the attempts.
+pub(crate) fn read_tries(words: &mut Words<'_>) -> Option<u32>
+    ensures some { IfSome result (λ n. (1 ≤ n) × (n ≤ 1000) × (words.old ≡ codes "tries" ∷ decimal n ∷ [])) }
+    ensures none { IfNone result ((n : ℕ) → 1 ≤ n → n ≤ 1000 → words.old ≢ codes "tries" ∷ decimal n ∷ []) }
+{
+    if words.next()? != b"tries".as_slice() {
+        return None;
+    }
+    let n = tries_of(words.next()?)?;
+    if words.is_at_end() { Some(n) } else { None }
 }
