@@ -165,3 +165,10 @@ goes_on left (l ∷ ls) next is some = record { line = l; rest = ls; lines = nex
 -- the line after one that was passed
 pub after_pass : (given more old left : ℕ) → given + more ≡ old + left → left ≡ more + 1 → given + 1 ≡ old + 2
 after_pass given more old left count one = omega arith
+
+-- behind the first two lines no move was read yet
+pub no_moves_yet : (net : NetworkPlan) (text : List ℕ) (start reading : Reading) → start.given ≡ 0 → start.left ≡ lines_of text → reading.left ≡ drop 2 start.left
+    → reading.given + length reading.left ≡ start.given + length start.left → HasMoves net text [] reading
+no_moves_yet net text start reading given left behind count =
+    let all = ap (λ (ls : List Line). length ls) left in
+    record { of = λ k m at. absurd (cc); lines = ap (λ (ls : List Line). drop 2 ls) (sym left) ∙ sym behind; count = omega (arith, all, given, count) }

@@ -8,7 +8,9 @@ mod forms;
 pub mod lines;
 pub mod moves;
 pub mod outcomes;
+pub mod read;
 pub mod reader;
+pub mod refusal;
 pub mod report;
 mod words;
 
