@@ -20,7 +20,7 @@ use std::alloc::Global;
 pub const LONGEST_TEXT: usize = 134_217_728;
 
 /// How many moves a report may have.
-pub const MOST_MOVES: usize = 1_000_000;
+pub const MOST_MOVES: u32 = 1_000_000;
 
 /// Reads the lines of the moves, to the first that is none.
 fn read_moves(alloc: Global, net: &Network, lines: &mut ReportLines<'_>) -> Result<Moves, ReportRefusal>
@@ -31,7 +31,7 @@ fn read_moves(alloc: Global, net: &Network, lines: &mut ReportLines<'_>) -> Resu
 {
     let mut moves = Moves::new(alloc);
     while let Some(m) = lines.next_move(net) {
-        if moves.len() == MOST_MOVES {
+        if moves.len() == MOST_MOVES as usize {
             return Err(ReportRefusal::Long);
         }
         moves.push(m)?;
