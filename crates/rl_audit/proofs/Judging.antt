@@ -9,15 +9,17 @@ use Rattle.rl_model.specs.declared.report.Outcome.{Outcome}
 use Rattle.rl_model.specs.declared.report.Report.{Report}
 use Rattle.rl_model.specs.World.{World, start}
 use Rattle.rl_model.specs.Moves.{Guards, guards, AllHold, FirstFails, after, guard, done}
-use Rattle.rl_model.specs.Safety.{Guarded, GuardedFrom, world_after}
+use Rattle.rl_model.specs.Safety.{Guarded, GuardedFrom, IsSafeRun, world_after}
 use Rattle.rl_model.specs.Reports.{FateFits, IsRightOutcome, outcome_guards, made_in, refused_in}
 use Rattle.rl_domain.specs.Tables.{Tables, world_of, Fits}
 use Rattle.rl_audit.specs.declared.counts.Count.{Count}
 use Rattle.rl_audit.specs.declared.judge.Judge.{Judge}
 use Rattle.rl_audit.specs.declared.judge.Failure.{Failure}
 use Rattle.rl_audit.specs.Counting.{AreCounts}
-use Rattle.rl_audit.specs.Verdicts.{IsFirstBadMove, IsFirstBadOutcome}
-use Rattle.rl_audit.specs.Judging.{IsGood, HasJudged, HasJudgedTrains, OutcomeTested}
+use Rattle.rl_audit.specs.declared.verdict.Verdict.{Verdict}
+use Rattle.rl_audit.specs.declared.verdict.Verdict.TheVariants.{Safe, Bad}
+use Rattle.rl_audit.specs.Verdicts.{IsFirstBadMove, IsFirstBadOutcome, IsVerdict}
+use Rattle.rl_audit.specs.Judging.{IsGood, HasJudged, HasJudgedTrains, OutcomeTested, VerdictIs}
 use Rattle.rl_audit.proofs.Counting.{there}
 
 guarded_more : (net : NetworkPlan) (w : World) (moves : List Move) (m : Move) → GuardedFrom net w moves → AllHold (guards net (fold after w moves) m) → GuardedFrom net w (moves ++ m ∷ [])
@@ -225,3 +227,13 @@ train_wrong net report tries t o j new line number tried place low fine tested i
             place = omega (arith, line_is, count, place);
           }));
     })
+
+pub length_of_counts : (new old : Judge) → new.counts ≡ old.counts → length new.counts.items ≡ length old.counts.items
+length_of_counts new old e = ap (λ c. length c.items) e
+
+-- the verdict, where the lines of all trains were judged
+pub verdict_from : (net : NetworkPlan) (report : Report) (j : Judge) (v : Verdict) → (Guarded net report.moves → IsSafeRun net report.moves) → length report.outcomes ≡ length net.trains
+    → HasJudgedTrains net report j → VerdictIs j v → IsVerdict net report v
+verdict_from net report j (Safe n) safe all judged is =
+    (is.1 ∙ judged.count, record { run = safe (judged.good is.0).guarded; trains = all; outcomes = judged.right is.0 })
+verdict_from net report j (Bad line number) safe all judged is = judged.bad (record { line = line; guard = number }) is

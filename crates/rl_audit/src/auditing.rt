@@ -13,6 +13,7 @@ use crate::verdict::Verdict;
 use rl_base::TrainId;
 use rl_model::laws::safe_runs;
 use rl_net::Network;
+use rl_report::laws::reading_laws;
 use rl_report::{LONGEST_TEXT, MOST_MOVES, ReportLines, ReportRefusal};
 use std::alloc::Global;
 
@@ -23,6 +24,8 @@ fn judge_moves(net: &Network, lines: &mut ReportLines<'_>, judge: &mut Judge) ->
     ensures none { OnOk result (HasNoMove net.now lines.new.left) }
     ensures err { IfErr result (TooMany net.now lines.old) }
 {
+    // The laws of reading, for the proof.
+    reading_laws();
     while let Some(m) = lines.next_move(net) {
         if judge.moves == MOST_MOVES {
             return Err(ReportRefusal::Long);
@@ -94,7 +97,8 @@ fn judge_rest(
 pub fn audit(alloc: Global, net: &Network, text: &[u8]) -> Result<Verdict, ReportRefusal>
     ensures audits { AuditsAs net.now text.now result }
 {
-    // What acceptance gave, for the proof.
+    // The laws of reading, and what acceptance gave, for the proof.
+    reading_laws();
     let _trains = net.trains();
     if text.len() > LONGEST_TEXT {
         return Err(ReportRefusal::Long);

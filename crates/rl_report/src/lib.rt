@@ -5,6 +5,7 @@
 #![tactic(auto)]
 
 mod forms;
+pub mod laws;
 pub mod lines;
 pub mod moves;
 pub mod outcomes;
