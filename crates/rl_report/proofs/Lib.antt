@@ -9,3 +9,5 @@ pub mod LinesOf
 pub mod Agreement
 pub mod Faults
 pub mod Steps
+pub mod OneReading
+pub mod Short

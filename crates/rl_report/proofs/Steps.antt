@@ -114,7 +114,7 @@ head_step net text line moves tries reading first next is some few read =
     twice (l ∷ []) = refl
     twice (l ∷ l2 ∷ ls) = refl
 
-third : (ls : List Line) (i : ℕ) → slice_get ls (i + 2) ≡ slice_get (drop 2 ls) i
+pub third : (ls : List Line) (i : ℕ) → slice_get ls (i + 2) ≡ slice_get (drop 2 ls) i
 third [] i = grind (arith, common_steps)
 third (l ∷ []) i = grind (arith, common_steps)
 third (l ∷ l2 ∷ ls) i = let e : i + 2 ≡ suc (suc i) = omega arith in rw e refl
