@@ -8,6 +8,7 @@ use Rattle.rl_model.specs.Moves.{guards, FirstFails}
 use Rattle.rl_model.specs.Safety.{Guarded, world_after}
 use Rattle.rl_model.specs.Reports.{outcome_guards, IsRightOutcome, IsRightReport}
 use Rattle.rl_report.specs.declared.refusal.ReportRefusal.{ReportRefusal}
+use Rattle.rl_report.specs.declared.refusal.ReportRefusal.TheVariants.{Line, Long, NoMemory}
 use Rattle.rl_report.specs.Answers.{IsCause}
 use Rattle.rl_report.specs.Grammar.{IsTextOf, IsLong}
 use Rattle.rl_audit.specs.declared.verdict.Verdict.{Verdict}
@@ -48,3 +49,10 @@ pub record IsVerdictOn (net : NetworkPlan) (text : List ℕ) (verdict : Verdict)
 abbrev pub AuditsAs : NetworkPlan → List ℕ → Result Verdict ReportRefusal → Type 0
 AuditsAs net text (Ok verdict) = (IsLong net text → ⊥) × IsVerdictOn net text verdict
 AuditsAs net text (Err refusal) = IsCause net text refusal
+
+-- that verdict, or want of memory
+abbrev pub IsAnswer : Verdict → Result Verdict ReportRefusal → Type 0
+IsAnswer verdict (Ok found) = found ≡ verdict
+IsAnswer verdict (Err (Line n)) = ⊥
+IsAnswer verdict (Err Long) = ⊥
+IsAnswer verdict (Err NoMemory) = Unit {0}

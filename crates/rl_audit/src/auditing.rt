@@ -3,17 +3,19 @@ ghost use Rattle.rl_model.specs.declared.moves.Move.{Move};
 ghost use Rattle.rl_model.specs.declared.report.Report.{Report};
 ghost use Rattle.rl_domain.specs.Tables.{Fits};
 ghost use Rattle.rl_report.specs.Answers.{IsFault, TooMany};
-ghost use Rattle.rl_report.specs.Grammar.{most_moves};
+ghost use Rattle.rl_report.specs.Grammar.{IsTextOf, most_moves};
 ghost use Rattle.rl_report.specs.Reading.{HasNoMove, HasRead};
 ghost use Rattle.rl_audit.specs.Judging.{HasJudged, JudgedMoves, JudgedTrains};
-ghost use Rattle.rl_audit.specs.Verdicts.{IsVerdictOn, AuditsAs};
+ghost use Rattle.rl_audit.specs.Verdicts.{IsVerdict, IsVerdictOn, AuditsAs, IsAnswer};
+ghost use Rattle.rl_audit.specs.declared.verdict.Verdict.{Verdict};
 
 use crate::judge::Judge;
+use crate::laws::one_verdict;
 use crate::verdict::Verdict;
 use rl_base::TrainId;
 use rl_model::laws::safe_runs;
 use rl_net::Network;
-use rl_report::laws::reading_laws;
+use rl_report::laws::{one_reading, reading_laws};
 use rl_report::{LONGEST_TEXT, MOST_MOVES, ReportLines, ReportRefusal};
 use std::alloc::Global;
 
@@ -89,13 +91,8 @@ fn judge_rest(
     }
 }
 
-/// Whether the text is that of a report of the network in which every guard holds, from the start to the last
-/// outcome, and else the first line at which one fails, and its number. A text that is no report is refused
-/// as `read_report` refuses it.
-///
-/// The text is read once. Memory is taken for the world and two numbers for each train, before the first line.
-pub fn audit(alloc: Global, net: &Network, text: &[u8]) -> Result<Verdict, ReportRefusal>
-    ensures audits { AuditsAs net.now text.now result }
+fn audit_text(alloc: Global, net: &Network, text: &[u8]) -> Result<Verdict, ReportRefusal>
+    ensures { AuditsAs net.now text.now result }
 {
     // The laws of reading, and what acceptance gave, for the proof.
     reading_laws();
@@ -111,4 +108,22 @@ pub fn audit(alloc: Global, net: &Network, text: &[u8]) -> Result<Verdict, Repor
         Ok(tries) => judge_rest(net, tries, &mut lines, &mut judge),
         Err(n) => Err(ReportRefusal::Line(n)),
     }
+}
+
+/// Whether the text is that of a report of the network in which every guard holds, from the start to the last
+/// outcome, and else the first line at which one fails, and its number. A text that is no report is refused
+/// as `read_report` refuses it.
+///
+/// The text is read once. Memory is taken for the world and two numbers for each train, before the first line.
+pub fn audit(alloc: Global, net: &Network, text: &[u8]) -> Result<Verdict, ReportRefusal>
+    ensures audits { AuditsAs net.now text.now result }
+    ensures complete { (report : Report) (verdict : Verdict)
+        → IsTextOf net.now report text.now → length report.moves ≤ most_moves → IsVerdict net.now report verdict
+        → IsAnswer verdict result }
+{
+    // The laws that a text has one reading and a report one verdict, and what acceptance gave, for the proof.
+    one_reading();
+    one_verdict();
+    let _trains = net.trains();
+    audit_text(alloc, net, text)
 }

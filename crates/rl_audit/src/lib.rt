@@ -10,6 +10,7 @@ mod auditing;
 mod counts;
 mod fates;
 mod judge;
+pub mod laws;
 
 mod verdict;
 

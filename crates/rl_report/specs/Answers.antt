@@ -20,6 +20,13 @@ abbrev pub ReadsAs : NetworkPlan → List ℕ → Result Report ReportRefusal �
 ReadsAs net text (Ok report) = (IsLong net text → ⊥) × IsTextOf net report text
 ReadsAs net text (Err refusal) = IsCause net text refusal
 
+-- that report, or want of memory
+abbrev pub ReadsBack : Report → Result Report ReportRefusal → Type 0
+ReadsBack report (Ok read) = read ≡ report
+ReadsBack report (Err (Line n)) = ⊥
+ReadsBack report (Err Long) = ⊥
+ReadsBack report (Err NoMemory) = Unit {0}
+
 -- where the lines behind the second were all that was left, there are too many lines of moves, or memory ran out
 abbrev pub TooMany : NetworkPlan → Reading → ReportRefusal → Type 0
 TooMany net reading (Line n) = ⊥

@@ -5,10 +5,11 @@ ghost use Rattle.rl_model.specs.declared.network.NetworkPlan.{NetworkPlan};
 ghost use Rattle.rl_model.specs.declared.report.Report.{Report};
 ghost use Rattle.rl_model.specs.Network.{IsNetwork};
 ghost use Rattle.rl_report.specs.declared.refusal.ReportRefusal.{ReportRefusal};
-ghost use Rattle.rl_report.specs.Answers.{ReadsAs, TooMany, IsFault};
+ghost use Rattle.rl_report.specs.Answers.{ReadsAs, ReadsBack, TooMany, IsFault};
 ghost use Rattle.rl_report.specs.Grammar.{most_moves, IsTextOf};
 ghost use Rattle.rl_report.specs.Reading.{HasNoMove, HasMoves, HasRead};
 
+use crate::laws::one_reading;
 use crate::reader::ReportLines;
 use crate::refusal::ReportRefusal;
 use rl_base::TrainId;
@@ -91,10 +92,8 @@ fn read_rest(
     }
 }
 
-/// The report whose text this is. A refusal is the first fault of the text, or that it is too long, which is
-/// looked for before.
-pub fn read_report(alloc: Global, net: &Network, text: &[u8]) -> Result<Report, ReportRefusal>
-    ensures reads { ReadsAs net.now text.now result }
+fn read_text(alloc: Global, net: &Network, text: &[u8]) -> Result<Report, ReportRefusal>
+    ensures { ReadsAs net.now text.now result }
 {
     // What acceptance gave, for the proof.
     let _trains = net.trains();
@@ -108,4 +107,17 @@ pub fn read_report(alloc: Global, net: &Network, text: &[u8]) -> Result<Report, 
         Ok(tries) => read_rest(alloc, net, tries, moves, &mut lines),
         Err(n) => Err(ReportRefusal::Line(n)),
     }
+}
+
+/// The report whose text this is. A refusal is the first fault of the text, or that it is too long, which is
+/// looked for before. What `report_text` writes of a report of at most 1,000,000 moves is read as that report.
+pub fn read_report(alloc: Global, net: &Network, text: &[u8]) -> Result<Report, ReportRefusal>
+    ensures reads { ReadsAs net.now text.now result }
+    ensures complete { (report : Report) → IsTextOf net.now report text.now → length report.moves ≤ most_moves
+        → ReadsBack report result }
+{
+    // The law that a text has one reading, and what acceptance gave, for the proof.
+    one_reading();
+    let _trains = net.trains();
+    read_text(alloc, net, text)
 }
