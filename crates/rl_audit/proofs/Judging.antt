@@ -74,10 +74,10 @@ move_made net moves m old new next fine still holds changed fits same counted ju
       trains = same ∙ judged.trains;
       count = omega (arith, next, count, longer);
       good = λ e. record {
-          guarded = guarded_more net (start net) moves m good.guarded (subst (λ w. AllHold (guards net w m)) good.world holds);
-          world = changed ∙ ap (λ w. after w m) good.world ∙ sym (fold-append after (start net) moves (m ∷ []));
-          counted = counted good.counted;
-        };
+        guarded = guarded_more net (start net) moves m good.guarded (subst (λ w. AllHold (guards net w m)) good.world holds);
+        world = changed ∙ ap (λ w. after w m) good.world ∙ sym (fold-append after (start net) moves (m ∷ []));
+        counted = counted good.counted;
+      };
       bad = λ f e. absurd (cc);
     }
 
@@ -185,7 +185,7 @@ train_right net report tries t o j tried place low fine tested judged =
     let found = there j.counts.items t (omega arith) in
     let holds = subst AllHold (same_guards net tries report.moves t o j found.0 good found.1) (tested found.0 found.1) in
     let here : IsRightOutcome net report.tries report.moves (length report.outcomes) o =
-        subst (λ n. IsRightOutcome net n report.moves (length report.outcomes) o) (sym tried) (subst (λ n. IsRightOutcome net tries report.moves n o) (sym place) holds) in
+    subst (λ n. IsRightOutcome net n report.moves (length report.outcomes) o) (sym tried) (subst (λ n. IsRightOutcome net tries report.moves n o) (sym place) holds) in
     record {
       fits = judged.fits;
       trains = judged.trains;

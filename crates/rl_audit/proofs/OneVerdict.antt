@@ -84,7 +84,7 @@ one_bad_move net moves line number place other bad second =
           let place_is = bad.place in
           let place_is2 = second.place in
           let fails = subst (λ (m : Move). FirstFails number (guards net (world_after net second.before) m)) front.moves
-              (subst (λ (ms : List Move). FirstFails number (guards net (world_after net ms) bad.move)) front.fronts bad.fails) in
+          (subst (λ (ms : List Move). FirstFails number (guards net (world_after net ms) bad.move)) front.fronts bad.fails) in
           bad_is line place number other (omega (arith, same, place_is, place_is2)) (one_fails _ number other fails second.fails)
       | inr (inl less) ↦ absurd (not_before net moves line number place other bad second less)
       | inr (inr more) ↦ absurd (not_before net moves place other line number second bad more)
@@ -101,7 +101,7 @@ one_bad_outcome net report line number place other bad second =
           let place_is = bad.place in
           let place_is2 = second.place in
           let fails = subst (λ (o : Outcome). FirstFails number (outcome_guards net report.tries report.moves second.train o)) outcomes
-              (subst (λ (t : ℕ). FirstFails number (outcome_guards net report.tries report.moves t bad.outcome)) same bad.fails) in
+          (subst (λ (t : ℕ). FirstFails number (outcome_guards net report.tries report.moves t bad.outcome)) same bad.fails) in
           bad_is line place number other (omega (arith, same, place_is, place_is2)) (one_fails (outcome_guards net report.tries report.moves second.train second.outcome) number other fails second.fails)
       | inr (inl less) ↦ absurd (not_right net report line number place other bad second less)
       | inr (inr more) ↦ absurd (not_right net report place other line number second bad more)

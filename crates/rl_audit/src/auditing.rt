@@ -20,7 +20,11 @@ use rl_report::{LONGEST_TEXT, MOST_MOVES, ReportLines, ReportRefusal};
 use std::alloc::Global;
 
 /// Reads and judges the lines of the moves, to the first that is none.
-fn judge_moves(net: &Network, lines: &mut ReportLines<'_>, judge: &mut Judge) -> Result<(), ReportRefusal>
+fn judge_moves(
+    net: &Network,
+    lines: &mut ReportLines<'_>,
+    judge: &mut Judge,
+) -> Result<(), ReportRefusal>
     requires { HasJudged net.now [] judge.old }
     ensures ok { OnOk result (JudgedMoves net.now lines.old lines.new judge.new) }
     ensures none { OnOk result (HasNoMove net.now lines.new.left) }
