@@ -1,5 +1,5 @@
 -- A report whose first lines are those that were read has the same moves before it goes on.
-use Rattle.std.proofs.Common.{◌≡◌, ◌≢◌, ℕ, zero, suc, ◌+◌, ◌*◌, ◌<◌, ◌≤◌, ◌^◌, Bool, true, false, nat_lt, List, [], ◌∷◌, ◌++◌, length, map, slice_get, slice_index, Option, Some, None, codes, decimal, refl, ap, sym, ◌∙◌, subst, append_assoc, append-nil, arith}
+use Rattle.std.proofs.Common.{◌≡◌, ◌≢◌, ℕ, suc, ◌+◌, ◌*◌, ◌<◌, ◌≤◌, ◌^◌, List, [], ◌∷◌, ◌++◌, length, slice_get, slice_index, Some, codes, refl, ap, sym, ◌∙◌, arith}
 use Rattle.std.proofs.lemmas.Option.{same_Some}
 use Rattle.rl_text.specs.Lines.{Line}
 use Rattle.rl_text.specs.Words.{words_of}
@@ -13,10 +13,10 @@ use Rattle.rl_report.specs.declared.moves.MoveName.{MoveName}
 use Rattle.rl_report.specs.declared.moves.MoveName.TheVariants as name
 use Rattle.rl_report.specs.MoveNames.{name_word}
 use Rattle.rl_report.specs.Words.{IsCount, outcome_words}
-use Rattle.rl_report.specs.Grammar.{IsMoveLine, IsOutcomeLine, whole_line}
+use Rattle.rl_report.specs.Grammar.{whole_line}
 use Rattle.rl_report.specs.Reading.{end_line, move_lines, train_lines, next_text, HasNoMove}
 use Rattle.rl_report.proofs.NamedMoves.{named}
-use Rattle.rl_report.proofs.Plain.{are_plain, plain_move, plain_outcome}
+use Rattle.rl_report.proofs.Plain.{plain_outcome}
 use Rattle.rl_report.proofs.Joined.{words_of-joined}
 use Rattle.rl_report.proofs.ReadLines.{words_of_move}
 
@@ -66,7 +66,7 @@ move_or_train net m t o network made refused e =
     let is = named net m in
     let plain = plain_outcome net t o network (small o.made made) (small o.refused refused) in
     let same : move_words net m ≡ outcome_words net t o =
-        sym (words_of_move net m network) ∙ ap (λ (l : Line). words_of l.text) e ∙ words_of-joined _ _ plain in
+    sym (words_of_move net m network) ∙ ap (λ (l : Line). words_of l.text) e ∙ words_of-joined _ _ plain in
     let words = is.words in
     let first : name_word is.name ≡ codes "train" = cc in
     no_move_name is.name first

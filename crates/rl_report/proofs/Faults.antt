@@ -1,23 +1,21 @@
 -- Where the next line isn't as it must be, it is the first fault.
-use Rattle.std.proofs.Common.{◌≡◌, ◌≢◌, ℕ, zero, suc, ◌+◌, ◌-◌, ◌<◌, ◌≤◌, Bool, true, false, List, [], ◌∷◌, ◌++◌, length, drop, flat_map, slice_get, Option, Some, None, codes, decimal, refl, ap, sym, ◌∙◌, subst, append_assoc, append-nil, length-append, arith}
+use Rattle.std.proofs.Common.{◌≡◌, ℕ, zero, suc, ◌+◌, ◌-◌, ◌<◌, ◌≤◌, List, [], ◌∷◌, ◌++◌, length, drop, flat_map, slice_get, Some, None, codes, decimal, refl, ap, sym, ◌∙◌, subst, append_assoc, length-append, arith}
 use Rattle.std.proofs.lemmas.List.{length-map}
 use Rattle.std.proofs.lemmas.Option.{same_Some}
 use Rattle.rl_text.specs.Lines.{Line, Reading, lines_of, bytes_of}
 use Rattle.rl_text.proofs.LinesLemmas.{flat_map-lines_of}
-use Rattle.rl_model.specs.declared.moves.Move.{Move}
 use Rattle.rl_model.specs.declared.network.NetworkPlan.{NetworkPlan}
 use Rattle.rl_model.specs.declared.report.Fate.TheVariants.{Underway}
 use Rattle.rl_model.specs.declared.report.Outcome.{Outcome}
 use Rattle.rl_model.specs.declared.report.Report.{Report}
-use Rattle.rl_model.specs.Moves.{IsMoveOf}
 use Rattle.rl_model.specs.Network.{IsNetwork}
 use Rattle.rl_model.specs.Reports.{IsReportOf}
-use Rattle.rl_model.specs.ReportText.{move_words, report_text}
+use Rattle.rl_model.specs.ReportText.{report_text}
 use Rattle.rl_report.specs.Words.{IsCount, outcome_words}
-use Rattle.rl_report.specs.Grammar.{IsMoveLine, IsOutcomeLine, IsTextOf, BeginsReport, IsFirstFault, whole_line}
-use Rattle.rl_report.specs.Reading.{head_line, tries_line, end_line, move_lines, train_lines, front_lines, next_text, HasNoMove, HasNoTrain, HasMoves, HasRead}
+use Rattle.rl_report.specs.Grammar.{IsTextOf, BeginsReport, IsFirstFault, whole_line}
+use Rattle.rl_report.specs.Reading.{head_line, tries_line, end_line, move_lines, train_lines, front_lines, next_text, HasNoMove, HasNoTrain, HasRead}
 use Rattle.rl_report.proofs.LinesOf.{lines_of-report}
-use Rattle.rl_report.proofs.Agreement.{Agree, StartsWithNoMove, move_or_end, no_move_from, trains_no_move, moves_agree, OthersAgree, trains_agree}
+use Rattle.rl_report.proofs.Agreement.{Agree, move_or_end, no_move_from, trains_no_move, moves_agree, OthersAgree, trains_agree}
 
 -- what stood in a list stands where it stood
 within : {A : Type 0} (xs ys : List A) (i : ℕ) → i < length xs → slice_get (xs ++ ys) i ≡ slice_get xs i
@@ -79,7 +77,7 @@ begins_read net text x reading k network read low =
     let of = completed_of net text x reading read in
     let more = train_lines net (length x.outcomes) (blanks (length net.trains - length x.outcomes)) in
     let lines : lines_of (report_text net (completed net x)) ≡ front_lines net x ++ (more ++ end_line ∷ []) =
-        lines_of-report net (completed net x) network of ∙ ap (λ front. front ++ end_line ∷ []) (front_completed net x) ∙ append_assoc (front_lines net x) more (end_line ∷ []) in
+    lines_of-report net (completed net x) network of ∙ ap (λ front. front ++ end_line ∷ []) (front_completed net x) ∙ append_assoc (front_lines net x) more (end_line ∷ []) in
     record {
       report = completed net x;
       of = of;
@@ -123,10 +121,10 @@ behind net text x reading k network read some none begins =
     let long = length-front net x in
     let lines = lines_of-report net r network begins.of in
     let same : Agree (length x.moves + (length x.outcomes + k)) (move_lines net x.moves ++ (train_lines net 0 x.outcomes ++ reading.left)) (move_lines net r.moves ++ (train_lines net 0 r.outcomes ++ end_line ∷ [])) =
-        λ i h.
-          sym (shifted net x reading.left i) ∙ ap (λ ls. slice_get ls (suc (suc i))) (sym read.lines)
-          ∙ begins.same (suc (suc i)) (omega arith)
-          ∙ ap (λ ls. slice_get ls (suc (suc i))) lines ∙ shifted net r (end_line ∷ []) i in
+    λ i h.
+    sym (shifted net x reading.left i) ∙ ap (λ ls. slice_get ls (suc (suc i))) (sym read.lines)
+    ∙ begins.same (suc (suc i)) (omega arith)
+    ∙ ap (λ ls. slice_get ls (suc (suc i))) lines ∙ shifted net r (end_line ∷ []) i in
     let none_read = trains_no_move net 0 x.outcomes reading.left network read.outcomes (λ e. no_move_from net reading.left (none e)) in
     let none_there = trains_no_move net 0 r.outcomes (end_line ∷ []) network begins.of.outcomes (λ e m of is. move_or_end net m network (sym (same_Some _ _ is))) in
     let rest = moves_agree net x.moves r.moves _ _ (length x.outcomes + k) (omega arith) read.moves begins.of.moves none_read none_there same in
@@ -203,9 +201,11 @@ late_fault net text x reading n line rest network read number all none left =
         → Agree 2 reading.left (train_lines net (length x.outcomes) others ++ end_line ∷ []) → ⊥
     no_more [] counted same = let second : slice_get reading.left 1 ≡ None = same 1 (omega arith) in absurd (cc (ap (λ ls. slice_get ls 1) left))
     no_more (o ∷ others) counted same = omega arith
+
     whole : IsReportOf net x
     whole =
         record { some_tries = read.some_tries; few_tries = read.few_tries; moves = read.moves; trains = all; outcomes = read.outcomes }
+
     before : (k : ℕ) → k ≤ length (front_lines net x) + 1 → BeginsReport net text k
     before k low =
         record {
@@ -231,9 +231,9 @@ whole_text net text x reading network read all left =
     record {
       of = whole;
       spelled =
-        sym (flat_map-lines_of text)
-        ∙ ap (flat_map bytes_of) (read.lines ∙ ap (λ ls. front_lines net x ++ ls) left ∙ sym (lines_of-report net x network whole))
-        ∙ flat_map-lines_of (report_text net x);
+          sym (flat_map-lines_of text)
+          ∙ ap (flat_map bytes_of) (read.lines ∙ ap (λ ls. front_lines net x ++ ls) left ∙ sym (lines_of-report net x network whole))
+          ∙ flat_map-lines_of (report_text net x);
     }
   where
     whole : IsReportOf net x

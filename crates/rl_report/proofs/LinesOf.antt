@@ -1,8 +1,8 @@
 -- The lines of a report's text.
-use Rattle.std.proofs.Common.{◌≡◌, ◌==◌, ℕ, zero, suc, ◌+◌, ◌<◌, ◌≤◌, ◌^◌, Bool, true, false, List, [], ◌∷◌, ◌++◌, length, map, flat_map, slice_get, Option, Some, None, codes, decimal, refl, ap, sym, ◌∙◌, append_assoc, append-nil, lit≤, arith}
+use Rattle.std.proofs.Common.{◌≡◌, ◌==◌, ℕ, suc, ◌<◌, ◌≤◌, ◌^◌, Bool, true, false, List, [], ◌∷◌, ◌++◌, length, flat_map, slice_get, Some, codes, decimal, refl, ap, sym, ◌∙◌, append_assoc, lit≤, arith}
 use Rattle.std.specs.List.{slice_split, join_with_byte, All}
 use Rattle.std.proofs.lemmas.List.Splits.{slice_split_at, length-slice_split}
-use Rattle.rl_text.specs.Lines.{Line, lines_of, lines_of_parts}
+use Rattle.rl_text.specs.Lines.{lines_of, lines_of_parts}
 use Rattle.rl_model.specs.declared.moves.Move.{Move}
 use Rattle.rl_model.specs.declared.network.NetworkPlan.{NetworkPlan}
 use Rattle.rl_model.specs.declared.report.Outcome.{Outcome}
@@ -12,7 +12,7 @@ use Rattle.rl_model.specs.Reports.{IsReportOf}
 use Rattle.rl_model.specs.ReportText.{line_of, move_words, move_line, outcome_line, outcome_lines, report_text}
 use Rattle.rl_report.specs.Words.{IsCount, outcome_words}
 use Rattle.rl_report.specs.Grammar.{whole_line}
-use Rattle.rl_report.specs.Reading.{head_line, tries_line, end_line, move_lines, train_lines, front_lines}
+use Rattle.rl_report.specs.Reading.{head_line, end_line, move_lines, train_lines, front_lines}
 use Rattle.rl_report.proofs.Plain.{are_plain, plain_move, plain_outcome, plain_decimal, no_lf_in_joined, not_in_above}
 
 abbrev is_lf : ℕ → Bool
@@ -72,12 +72,12 @@ lines_of-report net report network of =
     ap lines_of (regroup (codes "relis report 1\n") (line_of tries) moves trains (codes "end\n"))
     ∙ lines_of-head (line_of tries ++ (moves ++ (trains ++ codes "end\n")))
     ∙ ap (λ lines. head_line ∷ lines)
-      (lines_of-words tries (moves ++ (trains ++ codes "end\n")) (plain_tries report.tries of.few_tries)
-      ∙ ap (λ lines. whole_line tries ∷ lines)
-        (lines_of-moves net report.moves (trains ++ codes "end\n") network
-        ∙ ap (λ lines. move_lines net report.moves ++ lines)
-          (lines_of-trains net 0 report.outcomes (codes "end\n") network of.outcomes ∙ ap (λ lines. train_lines net 0 report.outcomes ++ lines) the_end)
-        ∙ sym (append_assoc (move_lines net report.moves) (train_lines net 0 report.outcomes) (end_line ∷ []))))
+    (lines_of-words tries (moves ++ (trains ++ codes "end\n")) (plain_tries report.tries of.few_tries)
+    ∙ ap (λ lines. whole_line tries ∷ lines)
+    (lines_of-moves net report.moves (trains ++ codes "end\n") network
+    ∙ ap (λ lines. move_lines net report.moves ++ lines)
+    (lines_of-trains net 0 report.outcomes (codes "end\n") network of.outcomes ∙ ap (λ lines. train_lines net 0 report.outcomes ++ lines) the_end)
+    ∙ sym (append_assoc (move_lines net report.moves) (train_lines net 0 report.outcomes) (end_line ∷ []))))
   where
     the_end : lines_of (codes "end\n") ≡ end_line ∷ []
     the_end = refl

@@ -1,15 +1,9 @@
 -- A move's line begins with the name of the move.
-use Rattle.std.proofs.Common.{◌≡◌, ◌≢◌, ℕ, List, [], ◌∷◌, codes, refl}
-use Rattle.rl_base.specs.declared.ids.SegId.{SegId}
-use Rattle.rl_base.specs.declared.ids.BoxId.{BoxId}
-use Rattle.rl_base.specs.declared.ids.TrainId.{TrainId}
-use Rattle.rl_base.specs.declared.kind.Side.{Side}
+use Rattle.std.proofs.Common.{◌≡◌, ◌≢◌, ℕ, List, ◌∷◌, refl}
 use Rattle.rl_model.specs.declared.moves.Move.{Move}
 use Rattle.rl_model.specs.declared.moves.Move.TheVariants.{Reserve, Release, Lock, Unlock, Throw, Settle, Enter, Leave, Refuse, Bar}
 use Rattle.rl_model.specs.declared.network.NetworkPlan.{NetworkPlan}
-use Rattle.rl_model.specs.Moves.{IsMoveOf, IsTrainOf, IsSegmentOf, IsBoxOf}
-use Rattle.rl_model.specs.Network.{segment_name, box_name, train_name}
-use Rattle.rl_model.specs.ReportText.{move_words, side_word}
+use Rattle.rl_model.specs.ReportText.{move_words}
 use Rattle.rl_report.specs.declared.moves.MoveName.{MoveName}
 use Rattle.rl_report.specs.declared.moves.MoveName.TheVariants as name
 use Rattle.rl_report.specs.MoveNames.{name_word}

@@ -1,5 +1,5 @@
 -- A text has one reading: as a move, as a train's line, and as a report.
-use Rattle.std.proofs.Common.{◌≡◌, ◌≢◌, ℕ, zero, suc, ◌+◌, ◌*◌, ◌-◌, ◌<◌, ◌≤◌, ◌^◌, List, [], ◌∷◌, ◌++◌, length, drop, slice_get, slice_index, get_or, Option, Some, None, codes, decimal, refl, ap, sym, ◌∙◌, subst, inl, inr, ◌⊎◌, append_assoc, length-append, arith}
+use Rattle.std.proofs.Common.{◌≡◌, ℕ, suc, ◌+◌, ◌*◌, ◌-◌, ◌<◌, ◌≤◌, ◌^◌, List, [], ◌∷◌, ◌++◌, length, drop, slice_get, slice_index, get_or, Option, Some, None, decimal, refl, ap, sym, ◌∙◌, inl, inr, ◌⊎◌, append_assoc, arith}
 use Rattle.std.specs.Str.Parse.{digits_value}
 use Rattle.std.proofs.lemmas.Fmt.{digits_value-decimal}
 use Rattle.std.proofs.lemmas.Option.{same_Some}
@@ -22,8 +22,7 @@ use Rattle.rl_model.specs.declared.report.Outcome.{Outcome}
 use Rattle.rl_model.specs.declared.report.Report.{Report}
 use Rattle.rl_model.specs.Moves.{IsMoveOf}
 use Rattle.rl_model.specs.Network.{IsNetwork, segment_name, box_name, train_name}
-use Rattle.rl_model.specs.Reports.{IsReportOf}
-use Rattle.rl_model.specs.ReportText.{move_words, side_word, fate_word, report_text}
+use Rattle.rl_model.specs.ReportText.{move_words, side_word, fate_word}
 use Rattle.rl_report.specs.declared.moves.MoveName.{MoveName}
 use Rattle.rl_report.specs.declared.moves.MoveName.TheVariants as name
 use Rattle.rl_report.specs.MoveNames.{name_word}
@@ -32,7 +31,7 @@ use Rattle.rl_report.specs.Grammar.{IsMoveLine, IsOutcomeLine, IsTextOf, BeginsR
 use Rattle.rl_report.specs.Reading.{end_line, move_lines, train_lines, front_lines, tries_line}
 use Rattle.rl_report.proofs.Agreement.{StartsWithNoMove, move_or_end, move_or_train, trains_no_move}
 use Rattle.rl_report.proofs.LinesOf.{lines_of-report}
-use Rattle.rl_report.proofs.Plain.{plain_move, plain_outcome}
+use Rattle.rl_report.proofs.Plain.{plain_outcome}
 use Rattle.rl_report.proofs.Joined.{words_of-joined}
 use Rattle.rl_report.proofs.ReadLines.{same_train, one_train, tries_words, words_of_move, words_from_move_line, words_from_outcome_line}
 use Rattle.rl_report.proofs.Within.{none_within}
@@ -217,7 +216,7 @@ pub one_outcome_line : (net : NetworkPlan) (text : List ℕ) (t u : ℕ) (o p : 
 one_outcome_line net text t u o p network is is2 =
     let train = one_train net text t u o p network is is2 in
     let words : outcome_words net t o ≡ outcome_words net t p =
-        sym (words_from_outcome_line net text t o network is) ∙ words_from_outcome_line net text u p network is2 ∙ ap (λ n. outcome_words net n p) (sym train) in
+    sym (words_from_outcome_line net text t o network is) ∙ words_from_outcome_line net text u p network is2 ∙ ap (λ n. outcome_words net n p) (sym train) in
     (train, one_outcome net t o p is.made is.refused is2.made is2.refused words)
 
 -- lines that are the same have the same words
@@ -269,18 +268,18 @@ tries_same m n small_m small_n e =
 pub one_report : (net : NetworkPlan) (text : List ℕ) (r q : Report) → IsNetwork net → IsTextOf net r text → IsTextOf net q text → r ≡ q
 one_report net text r q network is is2 =
     let lines : front_lines net r ++ end_line ∷ [] ≡ front_lines net q ++ end_line ∷ [] =
-        sym (lines_of-report net r network is.of) ∙ ap lines_of (sym is.spelled ∙ is2.spelled) ∙ lines_of-report net q network is2.of in
+    sym (lines_of-report net r network is.of) ∙ ap lines_of (sym is.spelled ∙ is2.spelled) ∙ lines_of-report net q network is2.of in
     let count = is.of.trains in
     let count2 = is2.of.trains in
     let tries = tries_same r.tries q.tries is.of.few_tries is2.of.few_tries (same_Some _ _ (ap (λ ls. slice_get ls 1) lines)) in
     let behind : move_lines net r.moves ++ (train_lines net 0 r.outcomes ++ end_line ∷ []) ≡ move_lines net q.moves ++ (train_lines net 0 q.outcomes ++ end_line ∷ []) =
-        sym (append_assoc (move_lines net r.moves) (train_lines net 0 r.outcomes) (end_line ∷ []))
-        ∙ ap (λ (ls : List Line). drop 2 ls) lines
-        ∙ append_assoc (move_lines net q.moves) (train_lines net 0 q.outcomes) (end_line ∷ []) in
+    sym (append_assoc (move_lines net r.moves) (train_lines net 0 r.outcomes) (end_line ∷ []))
+    ∙ ap (λ (ls : List Line). drop 2 ls) lines
+    ∙ append_assoc (move_lines net q.moves) (train_lines net 0 q.outcomes) (end_line ∷ []) in
     let no_end = λ (m : Move) (of : IsMoveOf net m) (at : slice_get (end_line ∷ []) 0 ≡ Some (whole_line (move_words net m))). move_or_end net m network (sym (same_Some _ _ at)) in
     let same = moves_same net r.moves q.moves _ _ network is.of.moves is2.of.moves
-        (trains_no_move net 0 r.outcomes (end_line ∷ []) network is.of.outcomes (λ e. no_end))
-        (trains_no_move net 0 q.outcomes (end_line ∷ []) network is2.of.outcomes (λ e. no_end)) behind in
+    (trains_no_move net 0 r.outcomes (end_line ∷ []) network is.of.outcomes (λ e. no_end))
+    (trains_no_move net 0 q.outcomes (end_line ∷ []) network is2.of.outcomes (λ e. no_end)) behind in
     let outcomes = trains_same net 0 r.outcomes q.outcomes _ _ network is.of.outcomes is2.of.outcomes (omega arith) same.rest_is in
     ap (λ (n : ℕ). let x : Report = record { tries = n; moves = r.moves; outcomes = r.outcomes } in x) tries
     ∙ ap (λ (ms : List Move). let x : Report = record { tries = q.tries; moves = ms; outcomes = r.outcomes } in x) same.moves_are

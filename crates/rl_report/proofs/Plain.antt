@@ -1,5 +1,5 @@
 -- The words of a report's lines have neither a space nor an LF.
-use Rattle.std.proofs.Common.{◌≡◌, ◌==◌, ℕ, ◌<◌, ◌≤◌, ◌^◌, Bool, true, false, nat_lt, ◌&&◌, List, [], ◌∷◌, ◌++◌, Option, Some, None, slice_get, get_or, length, codes, decimal, IsTrue, refl, ap, ◌∙◌, arith}
+use Rattle.std.proofs.Common.{◌≡◌, ◌==◌, ℕ, ◌<◌, ◌≤◌, ◌^◌, Bool, true, false, nat_lt, List, [], ◌∷◌, Option, Some, None, slice_get, get_or, length, decimal, IsTrue, refl, arith}
 use Rattle.std.specs.Char.{is_ascii_digit}
 use Rattle.std.specs.List.{list_all, All, join_with_byte}
 use Rattle.std.specs.Option.{option_map_or}
@@ -107,6 +107,7 @@ not_in_above c low word within h k d l =
   where
     at_place : (test : ℕ → Bool) (w : List ℕ) (i v : ℕ) → list_all test w ≡ true → i < length w → test (get_or w i v) ≡ true
     at_place test w i v all within = grind (arith, common_steps, list_all_at test w i v)
+
     other : (b : ℕ) → nat_lt low b ≡ true → (b == c) ≡ false
     other b above = grind (arith, nat_tests)
 

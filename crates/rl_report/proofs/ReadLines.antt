@@ -10,11 +10,11 @@ use Rattle.rl_model.specs.Moves.{IsMoveOf}
 use Rattle.rl_model.specs.declared.network.Train.{Train}
 use Rattle.rl_model.specs.Network.{IsNetwork, train_name}
 use Rattle.rl_report.proofs.Within.{none_within}
-use Rattle.rl_model.specs.ReportText.{line_of, move_words, move_line, outcome_line}
+use Rattle.rl_model.specs.ReportText.{line_of, move_words}
 use Rattle.rl_report.specs.Words.{IsCount, outcome_words}
 use Rattle.rl_report.specs.Grammar.{IsMoveLine, IsOutcomeLine}
-use Rattle.rl_report.proofs.NamedMoves.{IsNamed, named}
-use Rattle.rl_report.proofs.Plain.{plain_move, plain_outcome, plain_decimal, are_plain}
+use Rattle.rl_report.proofs.NamedMoves.{named}
+use Rattle.rl_report.proofs.Plain.{plain_move, plain_outcome, plain_decimal}
 use Rattle.rl_report.proofs.Joined.{words_of-joined, joined-words_of}
 
 -- the line of some words, where they are the words of the text

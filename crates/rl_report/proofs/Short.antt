@@ -1,5 +1,5 @@
 -- The text of a report with no more moves than it may have isn't too long.
-use Rattle.std.proofs.Common.{◌≡◌, ℕ, zero, suc, ◌+◌, ◌*◌, ◌<◌, ◌≤◌, ◌^◌, Bool, true, List, [], ◌∷◌, ◌++◌, length, flat_map, slice_get, Option, Some, None, codes, decimal, IsTrue, inl, inr, refl, ap, sym, ◌∙◌, append_assoc, length-append, lit<, arith}
+use Rattle.std.proofs.Common.{◌≡◌, ℕ, suc, ◌+◌, ◌*◌, ◌≤◌, List, [], ◌∷◌, ◌++◌, length, flat_map, slice_get, Option, Some, None, codes, decimal, IsTrue, inl, inr, refl, ap, sym, ◌∙◌, append_assoc, length-append, arith}
 use Rattle.std.specs.List.{join_with_byte}
 use Rattle.std.specs.Option.{option_map_or}
 use Rattle.std.proofs.lemmas.Bool.Decides.{nat_tests}
@@ -190,9 +190,9 @@ report_not_long net text report h is few (inr each) =
     let lines = ap lines_of is.spelled ∙ lines_of-report net report h is.of in
     let rest = train_lines net 0 report.outcomes ++ end_line ∷ [] in
     let here : slice_get rest 0 ≡ Some (whole_line (move_words net at.0)) =
-        sym (behind_moves net report.moves rest)
-        ∙ ap (λ ls. slice_get ls (length report.moves)) (sym (append_assoc (move_lines net report.moves) (train_lines net 0 report.outcomes) (end_line ∷ [])))
-        ∙ sym (third (front_lines net report ++ end_line ∷ []) (length report.moves))
-        ∙ ap (λ ls. slice_get ls (length report.moves + 2)) (sym lines)
-        ∙ at.2 in
+    sym (behind_moves net report.moves rest)
+    ∙ ap (λ ls. slice_get ls (length report.moves)) (sym (append_assoc (move_lines net report.moves) (train_lines net 0 report.outcomes) (end_line ∷ [])))
+    ∙ sym (third (front_lines net report ++ end_line ∷ []) (length report.moves))
+    ∙ ap (λ ls. slice_get ls (length report.moves + 2)) (sym lines)
+    ∙ at.2 in
     trains_no_move net 0 report.outcomes (end_line ∷ []) h is.of.outcomes (λ e m of end. move_or_end net m h (sym (same_Some _ _ end))) at.0 at.1 here

@@ -1,21 +1,20 @@
 -- One line more was read.
-use Rattle.std.proofs.Common.{◌≡◌, ◌≢◌, ℕ, zero, suc, ◌+◌, ◌<◌, ◌≤◌, Bool, true, false, List, [], ◌∷◌, ◌++◌, length, map, drop, slice_get, Option, Some, None, codes, decimal, refl, ap, sym, ◌∙◌, subst, append_assoc, append-nil, length-append, arith, if◌then◌else◌, inl, inr}
+use Rattle.std.proofs.Common.{◌≡◌, ℕ, zero, suc, ◌+◌, ◌<◌, ◌≤◌, Bool, true, false, List, [], ◌∷◌, ◌++◌, length, drop, slice_get, Some, None, codes, refl, ap, sym, ◌∙◌, subst, append_assoc, append-nil, length-append, arith, if◌then◌else◌, inl, inr}
 use Rattle.std.specs.List.{join_with_byte}
 use Rattle.std.proofs.lemmas.List.{append_cancel_right, map-append}
-use Rattle.std.proofs.lemmas.Option.{same_Some, slice_get_within}
+use Rattle.std.proofs.lemmas.Option.{same_Some}
 use Rattle.rl_text.specs.Lines.{Line, Reading, lines_of, longest_text}
 use Rattle.rl_model.specs.declared.moves.Move.{Move}
 use Rattle.rl_model.specs.declared.network.NetworkPlan.{NetworkPlan}
 use Rattle.rl_model.specs.declared.report.Outcome.{Outcome}
 use Rattle.rl_model.specs.declared.report.Report.{Report}
 use Rattle.rl_model.specs.Moves.{IsMoveOf}
-use Rattle.rl_model.specs.Network.{IsNetwork}
 use Rattle.rl_model.specs.ReportText.{move_words}
 use Rattle.rl_report.specs.Words.{IsCount, outcome_words}
 use Rattle.rl_report.proofs.Agreement.{no_move_from}
 use Rattle.rl_report.proofs.Faults.{train_lines-append}
 use Rattle.std.proofs.lemmas.Grind.{common_steps}
-use Rattle.rl_report.specs.Grammar.{IsMoveLine, IsOutcomeLine, IsLong, HasMoveAt, most_moves, whole_line}
+use Rattle.rl_report.specs.Grammar.{IsMoveLine, IsOutcomeLine, IsLong, most_moves, whole_line}
 use Rattle.rl_report.specs.Reading.{head_line, tries_line, end_line, move_lines, train_lines, front_lines, next_text, HasNoMove, HasMoves, HasRead}
 
 -- what holds of each item holds of one more
@@ -70,7 +69,7 @@ train_step net text line x t o old new next is left count at read =
     let there = is.train in
     let words : line ≡ join_with_byte 32 (outcome_words net t o) = append_cancel_right line (join_with_byte 32 (outcome_words net t o)) (10 ∷ []) is.line in
     let here : old.left ≡ train_lines net t (o ∷ []) ++ new.left =
-        next_line old.left line next ∙ ap (λ w. record { text = w; whole = true } ∷ drop 1 old.left) words ∙ ap (λ ls. whole_line (outcome_words net t o) ∷ ls) (sym left) in
+    next_line old.left line next ∙ ap (λ w. record { text = w; whole = true } ∷ drop 1 old.left) words ∙ ap (λ ls. whole_line (outcome_words net t o) ∷ ls) (sym left) in
     record {
       some_tries = read.some_tries;
       few_tries = read.few_tries;
@@ -80,11 +79,11 @@ train_step net text line x t o old new next is left count at read =
       lines = read.lines
           ∙ ap (λ ls. front_lines net x ++ ls) here
           ∙ ap (λ ls. head_line ∷ tries_line x.tries ∷ ls)
-            (append_assoc (move_lines net x.moves) (train_lines net 0 x.outcomes) (train_lines net t (o ∷ []) ++ new.left)
-            ∙ ap (λ ls. move_lines net x.moves ++ ls)
-              (sym (append_assoc (train_lines net 0 x.outcomes) (train_lines net t (o ∷ [])) new.left)
-              ∙ ap (λ ls. ls ++ new.left) (sym (train_lines-append net 0 t x.outcomes (o ∷ []) (omega arith))))
-            ∙ sym (append_assoc (move_lines net x.moves) (train_lines net 0 (x.outcomes ++ o ∷ [])) new.left));
+          (append_assoc (move_lines net x.moves) (train_lines net 0 x.outcomes) (train_lines net t (o ∷ []) ++ new.left)
+          ∙ ap (λ ls. move_lines net x.moves ++ ls)
+          (sym (append_assoc (train_lines net 0 x.outcomes) (train_lines net t (o ∷ [])) new.left)
+          ∙ ap (λ ls. ls ++ new.left) (sym (train_lines-append net 0 t x.outcomes (o ∷ []) (omega arith))))
+          ∙ sym (append_assoc (move_lines net x.moves) (train_lines net 0 (x.outcomes ++ o ∷ [])) new.left));
       count = omega arith;
     }
 
@@ -103,9 +102,9 @@ head_step net text line moves tries reading first next is some few read =
       trains = omega arith;
       lines = next_line (lines_of text) (codes "relis report 1") first
           ∙ ap (λ ls. head_line ∷ ls)
-            (next_line (drop 1 (lines_of text)) line next
-            ∙ ap (λ w. record { text = w; whole = true } ∷ drop 1 (drop 1 (lines_of text))) is
-            ∙ ap (λ ls. tries_line tries ∷ ls) (twice (lines_of text) ∙ read.lines ∙ ap (λ ls. ls ++ reading.left) (sym (append-nil (move_lines net moves)))));
+          (next_line (drop 1 (lines_of text)) line next
+          ∙ ap (λ w. record { text = w; whole = true } ∷ drop 1 (drop 1 (lines_of text))) is
+          ∙ ap (λ ls. tries_line tries ∷ ls) (twice (lines_of text) ∙ read.lines ∙ ap (λ ls. ls ++ reading.left) (sym (append-nil (move_lines net moves)))));
       count = read.count;
     }
   where
@@ -128,8 +127,8 @@ move_at net (m ∷ moves) rest (suc i) h = move_at net moves rest i (omega arith
 pub long_from_moves : (net : NetworkPlan) (text : List ℕ) (moves : List Move) (reading : Reading) → HasMoves net text moves reading → most_moves < length moves → IsLong net text
 long_from_moves net text moves reading read many =
     inr (λ i h.
-      let at = move_at net moves reading.left i (omega arith) in
-      (at.0, read.of i at.0 at.1, third (lines_of text) i ∙ ap (λ ls. slice_get ls i) read.lines ∙ at.2))
+    let at = move_at net moves reading.left i (omega arith) in
+    (at.0, read.of i at.0 at.1, third (lines_of text) i ∙ ap (λ ls. slice_get ls i) read.lines ∙ at.2))
 
 -- as many as a report may have, and the next line is none
 pub short_from_moves : (net : NetworkPlan) (text : List ℕ) (moves : List Move) (reading : Reading) → HasMoves net text moves reading → length moves ≤ most_moves
@@ -138,7 +137,7 @@ short_from_moves net text moves reading read few small none (inl large) = omega 
 short_from_moves net text moves reading read few small none (inr each) =
     let at = each (length moves) (omega arith) in
     let here : slice_get reading.left 0 ≡ Some (whole_line (move_words net at.0)) =
-        sym (behind_moves net moves reading.left) ∙ ap (λ ls. slice_get ls (length moves)) (sym read.lines) ∙ sym (third (lines_of text) (length moves)) ∙ at.2 in
+    sym (behind_moves net moves reading.left) ∙ ap (λ ls. slice_get ls (length moves)) (sym read.lines) ∙ sym (third (lines_of text) (length moves)) ∙ at.2 in
     no_move_from net reading.left none at.0 at.1 here
   where
     behind_moves : (net : NetworkPlan) (ms : List Move) (rest : List Line) → slice_get (move_lines net ms ++ rest) (length ms) ≡ slice_get rest 0

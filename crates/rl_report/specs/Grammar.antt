@@ -1,5 +1,5 @@
 -- The grammar of a report, over the lines of its text: which lines are there, and which is the first that isn't as it must be.
-use Rattle.std.specs.Prelude.{◌≡◌, ℕ, suc, ◌+◌, ◌-◌, ◌<◌, ◌≤◌, Bool, true, List, [], ◌∷◌, ◌++◌, length, map, codes, decimal, slice_get, Option, Some, None, if◌then◌else◌, ◌⊎◌}
+use Rattle.std.specs.Prelude.{◌≡◌, ℕ, ◌+◌, ◌-◌, ◌<◌, true, List, [], ◌∷◌, ◌++◌, length, slice_get, Some, ◌⊎◌}
 use Rattle.std.specs.List.{join_with_byte}
 use Rattle.rl_text.specs.Lines.{Line, lines_of, longest_text}
 use Rattle.rl_model.specs.declared.moves.Move.{Move}
@@ -9,7 +9,7 @@ use Rattle.rl_model.specs.declared.report.Report.{Report}
 use Rattle.rl_model.specs.Moves.{IsMoveOf}
 use Rattle.rl_model.specs.Reports.{IsReportOf}
 use Rattle.rl_model.specs.ReportText.{move_words, move_line, outcome_line, report_text}
-use Rattle.rl_report.specs.Words.{IsCount, outcome_words}
+use Rattle.rl_report.specs.Words.{IsCount}
 
 -- with an LF behind it the text is the line of a move of the network
 pub record IsMoveLine (net : NetworkPlan) (text : List ℕ) (m : Move) : Type 0 where

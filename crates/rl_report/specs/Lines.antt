@@ -1,5 +1,5 @@
 -- The lines that are left, where the next one was taken already.
-use Rattle.std.specs.Prelude.{◌≡◌, ℕ, ◌+◌, ◌≤◌, List, [], ◌∷◌, ◌++◌, Option, Some, None, is_some, if◌then◌else◌}
+use Rattle.std.specs.Prelude.{◌≡◌, ℕ, ◌+◌, ◌≤◌, List, [], ◌∷◌, Option, None, is_some, if◌then◌else◌}
 use Rattle.std.specs.Option.{option_map_or}
 use Rattle.rl_text.specs.Lines.{Line, Reading, longest_text}
 use Rattle.rl_text.specs.declared.tokens.TextLine.{TextLine}

@@ -35,7 +35,11 @@ fn segments(words: &mut Words<'_>, net: &Network) -> Option<(SegId, SegId)>
 {
     let s = words.segment(net)?;
     let s2 = words.segment(net)?;
-    if words.is_at_end() { Some((s, s2)) } else { None }
+    if words.is_at_end() {
+        Some((s, s2))
+    } else {
+        None
+    }
 }
 
 /// Reads the last words of a line: a box and a train.
@@ -48,7 +52,11 @@ fn box_train(words: &mut Words<'_>, net: &Network) -> Option<(BoxId, TrainId)>
 {
     let b = words.switch_box(net)?;
     let u = words.train(net)?;
-    if words.is_at_end() { Some((b, u)) } else { None }
+    if words.is_at_end() {
+        Some((b, u))
+    } else {
+        None
+    }
 }
 
 /// Reads the last words of a line: a train, a segment and a box.

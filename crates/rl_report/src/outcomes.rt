@@ -59,7 +59,11 @@ fn counts(words: &mut Words<'_>) -> Option<(u32, u32)>
 {
     let made = count(words)?;
     let refused = count(words)?;
-    if words.is_at_end() { Some((made, refused)) } else { None }
+    if words.is_at_end() {
+        Some((made, refused))
+    } else {
+        None
+    }
 }
 
 /// Reads the last words of a train's line: its fate and its numbers.

@@ -24,7 +24,11 @@ pub const LONGEST_TEXT: usize = 134_217_728;
 pub const MOST_MOVES: u32 = 1_000_000;
 
 /// Reads the lines of the moves, to the first that is none.
-fn read_moves(alloc: Global, net: &Network, lines: &mut ReportLines<'_>) -> Result<Moves, ReportRefusal>
+fn read_moves(
+    alloc: Global,
+    net: &Network,
+    lines: &mut ReportLines<'_>,
+) -> Result<Moves, ReportRefusal>
     ensures ok { IfOk result (λ moves. (text : List ℕ) → HasMoves net.now text [] lines.old → HasMoves net.now text moves lines.new) }
     ensures few { IfOk result (λ moves. length moves ≤ most_moves) }
     ensures none { OnOk result (HasNoMove net.now lines.new.left) }

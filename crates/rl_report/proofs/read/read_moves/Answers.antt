@@ -1,6 +1,5 @@
-use Rattle.std.proofs.Common.{◌≡◌, ℕ, ◌+◌, ◌<◌, ◌≤◌, List, [], ◌∷◌, ◌++◌, length, length-append, arith}
+use Rattle.std.proofs.Common.{◌≡◌, ◌+◌, List, [], ◌∷◌, ◌++◌, length, length-append, arith}
 use Rattle.rl_model.specs.declared.moves.Move.{Move}
-use Rattle.rl_report.specs.Grammar.{most_moves}
 use Rattle.rl_report.proofs.Steps.{long_from_moves}
 use Rattle.rl_report.proofs.read.read_moves.Goals as goal
 

@@ -1,4 +1,4 @@
-use Rattle.std.proofs.Common.{◌≡◌, ◌≤◌, ℕ, List, length, Result, Ok, Err, sym}
+use Rattle.std.proofs.Common.{◌≤◌, ℕ, List, length, Result, Ok, Err}
 use Rattle.rl_model.specs.declared.network.NetworkPlan.{NetworkPlan}
 use Rattle.rl_model.specs.declared.report.Report.{Report}
 use Rattle.rl_model.specs.Network.{IsNetwork}

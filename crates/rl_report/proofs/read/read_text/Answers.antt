@@ -1,12 +1,11 @@
-use Rattle.std.proofs.Common.{◌≡◌, ◌≤◌, ℕ, List, [], ◌++◌, length, drop, Result, Ok, Err, IfOk, IfErr, refl, sym, ap, ◌∙◌, subst, arith}
-use Rattle.rl_text.specs.Lines.{Reading, lines_of, longest_text}
-use Rattle.rl_model.specs.declared.moves.Move.{Move}
+use Rattle.std.proofs.Common.{ℕ, List, Result, Ok, Err, IfOk, IfErr, arith}
+use Rattle.rl_text.specs.Lines.{Reading}
 use Rattle.rl_model.specs.declared.network.NetworkPlan.{NetworkPlan}
 use Rattle.rl_model.specs.declared.report.Report.{Report}
 use Rattle.rl_report.specs.declared.refusal.ReportRefusal.{ReportRefusal}
 use Rattle.rl_report.specs.declared.refusal.ReportRefusal.TheVariants as refusal
 use Rattle.rl_report.specs.Grammar.{IsTextOf, IsLong}
-use Rattle.rl_report.specs.Reading.{HasMoves, HasRead, HasNoMove}
+use Rattle.rl_report.specs.Reading.{HasRead, HasNoMove}
 use Rattle.rl_report.specs.Answers.{ReadsAs, IsFault, IsCause}
 use Rattle.rl_report.proofs.Steps.{short_from_moves, no_moves_yet}
 use Rattle.rl_report.proofs.read.read_text.Goals as goal

@@ -1,7 +1,7 @@
-use Rattle.std.proofs.Common.{◌≡◌, ℕ, ◌+◌, List, [], ◌∷◌, IsTrue, Some, None, codes, length, drop, ap, sym, ◌∙◌, arith}
+use Rattle.std.proofs.Common.{◌≡◌, ◌+◌, List, IsTrue, Some, codes, length, drop, ap, sym, ◌∙◌, arith}
 use Rattle.std.proofs.lemmas.Bool.Decides.{nat_tests}
 use Rattle.rl_text.specs.Lines.{Line}
-use Rattle.rl_report.specs.Reading.{next_text, end_line}
+use Rattle.rl_report.specs.Reading.{next_text}
 use Rattle.rl_report.proofs.Faults.{no_end_fault, late_fault, whole_text}
 use Rattle.rl_report.proofs.Steps.{end_is_left, goes_on, after_pass}
 use Rattle.rl_report.proofs.reader.ReportLines.end.Goals as goal
@@ -23,7 +23,7 @@ returns-else-is_at_end-clause-err c = λ text report read all none.
     let last : IsTrue c.is_last_line.result = grind (arith, nat_tests, c.if-not-is_last_line.false) in
     let next : next_text c.args.self.now.left ≡ Some (codes "end") = sym c.peek.ensures ∙ c.is_last_line.ensures.0 last in
     let more = goes_on c.args.self.now.left c.pass.new.self.left next c.pass.ensures.left
-        (λ e. let is : IsTrue c.is_at_end.result = c.is_at_end.ensures.1 e in let not_end = c.if-is_at_end.false in grind (arith, nat_tests)) in
+    (λ e. let is : IsTrue c.is_at_end.result = c.is_at_end.ensures.1 e in let not_end = c.if-is_at_end.false in grind (arith, nat_tests)) in
     let lines = more.lines in
     let passed = c.pass.ensures.left ∙ ap (λ (ls : List Line). drop 1 ls) lines in
     let long = ap (λ (ls : List Line). length ls) lines in

@@ -1,7 +1,7 @@
-use Rattle.std.proofs.Common.{◌≡◌, ℕ, List, IsTrue, Some, codes, refl, ap, sym, ◌∙◌, drop, slice_get, arith}
+use Rattle.std.proofs.Common.{◌≡◌, List, IsTrue, Some, codes, ap, sym, ◌∙◌, drop, arith}
 use Rattle.std.proofs.lemmas.Bool.Decides.{nat_tests}
 use Rattle.rl_text.specs.Lines.{Line, lines_of}
-use Rattle.rl_report.specs.Reading.{head_line, next_text}
+use Rattle.rl_report.specs.Reading.{next_text}
 use Rattle.rl_report.proofs.Faults.{no_head_fault, no_tries_fault}
 use Rattle.rl_report.proofs.Steps.{first_is}
 use Rattle.rl_report.proofs.reader.ReportLines.head.Goals as goal

@@ -1,6 +1,4 @@
-use Rattle.std.proofs.Common.{◌≡◌, ℕ, List, Option, Some, None, Bor, refl, ap, ◌∙◌, sym}
-use Rattle.std.specs.Option.{option_copied}
-use Rattle.rl_report.specs.Reading.{next_text}
+use Rattle.std.proofs.Common.{sym}
 use Rattle.rl_report.proofs.Steps.{move_step}
 use Rattle.rl_report.proofs.reader.ReportLines.next_move.Goals as goal
 

@@ -1,4 +1,4 @@
-use Rattle.std.proofs.Common.{◌≡◌, ℕ, Some, None, ap, sym, ◌∙◌}
+use Rattle.std.proofs.Common.{◌≡◌, sym}
 use Rattle.rl_report.proofs.Faults.{no_train_fault}
 use Rattle.rl_report.proofs.Steps.{train_step}
 use Rattle.rl_report.proofs.reader.ReportLines.next_outcome.Goals as goal
