@@ -1,5 +1,5 @@
 -- One line more was judged.
-use Rattle.std.proofs.Common.{◌≡◌, ℕ, zero, suc, ◌+◌, ◌<◌, ◌≤◌, Bool, true, false, List, [], ◌∷◌, ◌++◌, length, fold, slice_get, Option, Some, None, ◌⊎◌, inl, inr, ⊎_elim, refl, sym, ap, ◌∙◌, subst, append_assoc, length-append, arith}
+use Rattle.std.proofs.Common.{◌≡◌, ℕ, zero, suc, ◌+◌, ◌<◌, Bool, true, List, [], ◌∷◌, ◌++◌, length, fold, slice_get, Option, Some, None, ◌⊎◌, inl, inr, ⊎_elim, refl, sym, ap, ◌∙◌, subst, append_assoc, length-append, arith}
 use Rattle.std.specs.Prelude.{is_some}
 use Rattle.std.proofs.lemmas.Grind.{fold-append}
 use Rattle.std.proofs.lemmas.Option.{same_Some, slice_get_within}
@@ -8,10 +8,10 @@ use Rattle.rl_model.specs.declared.network.NetworkPlan.{NetworkPlan}
 use Rattle.rl_model.specs.declared.report.Outcome.{Outcome}
 use Rattle.rl_model.specs.declared.report.Report.{Report}
 use Rattle.rl_model.specs.World.{World, start}
-use Rattle.rl_model.specs.Moves.{Guards, guards, AllHold, FirstFails, after, guard, done}
-use Rattle.rl_model.specs.Safety.{Guarded, GuardedFrom, IsSafeRun, world_after}
+use Rattle.rl_model.specs.Moves.{guards, AllHold, FirstFails, after, guard, done}
+use Rattle.rl_model.specs.Safety.{Guarded, GuardedFrom, IsSafeRun}
 use Rattle.rl_model.specs.Reports.{FateFits, IsRightOutcome, outcome_guards, made_in, refused_in}
-use Rattle.rl_domain.specs.Tables.{Tables, world_of, Fits}
+use Rattle.rl_domain.specs.Tables.{world_of, Fits}
 use Rattle.rl_audit.specs.declared.counts.Count.{Count}
 use Rattle.rl_audit.specs.declared.judge.Judge.{Judge}
 use Rattle.rl_audit.specs.declared.judge.Failure.{Failure}

@@ -1,5 +1,5 @@
 -- What was found of a report, as far as it was read.
-use Rattle.std.specs.Prelude.{◌≡◌, ℕ, ◌<◌, ◌≤◌, List, [], length, slice_get, Option, Some, None, ◌⊎◌}
+use Rattle.std.specs.Prelude.{◌≡◌, ℕ, ◌≤◌, List, [], length, slice_get, Option, Some, None, ◌⊎◌}
 use Rattle.rl_model.specs.declared.moves.Move.{Move}
 use Rattle.rl_model.specs.declared.network.NetworkPlan.{NetworkPlan}
 use Rattle.rl_model.specs.declared.report.Outcome.{Outcome}

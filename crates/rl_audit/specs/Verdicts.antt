@@ -1,5 +1,5 @@
 -- The verdict on a report: every guard holds, or the first that fails, of the moves in order and then of the outcomes.
-use Rattle.std.specs.Prelude.{◌≡◌, ℕ, ◌+◌, ◌<◌, ◌≤◌, List, [], ◌∷◌, ◌++◌, length, slice_get, Some, Result, Ok, Err, ◌⊎◌}
+use Rattle.std.specs.Prelude.{◌≡◌, ℕ, ◌+◌, ◌<◌, List, ◌∷◌, ◌++◌, length, slice_get, Some, Result, Ok, Err, ◌⊎◌}
 use Rattle.rl_model.specs.declared.moves.Move.{Move}
 use Rattle.rl_model.specs.declared.network.NetworkPlan.{NetworkPlan}
 use Rattle.rl_model.specs.declared.report.Outcome.{Outcome}

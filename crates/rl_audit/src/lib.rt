@@ -5,16 +5,12 @@
 //! their guards, and the form of a report, and nothing of how trains and boxes come to their moves.
 #![tactic(auto)]
 
-
 mod auditing;
 mod counts;
 mod fates;
 mod judge;
 pub mod laws;
-
 mod verdict;
-
-
 
 pub use auditing::audit;
 pub use rl_report::ReportRefusal;

@@ -1,8 +1,7 @@
-use Rattle.std.proofs.Common.{◌≡◌, ◌≤◌, ℕ, List, [], Result, Ok, Err, IfOk, IfErr, arith}
+use Rattle.std.proofs.Common.{ℕ, List, [], Result, Ok, Err, IfOk, IfErr, arith}
 use Rattle.rl_text.specs.Lines.{Reading}
 use Rattle.rl_model.specs.declared.moves.Move.{Move}
 use Rattle.rl_model.specs.declared.network.NetworkPlan.{NetworkPlan}
-use Rattle.rl_model.specs.declared.report.Report.{Report}
 use Rattle.rl_report.specs.declared.refusal.ReportRefusal.{ReportRefusal}
 use Rattle.rl_report.specs.declared.refusal.ReportRefusal.TheVariants as refusal
 use Rattle.rl_report.specs.Grammar.{IsLong}

@@ -1,4 +1,4 @@
-use Rattle.std.proofs.Common.{◌≡◌, ℕ, [], refl, sym, subst}
+use Rattle.std.proofs.Common.{[], refl, sym, subst}
 use Rattle.std.proofs.lemmas.Result.{err_from_is_err_and}
 use Rattle.rl_text.specs.Lines.{Reading}
 use Rattle.rl_model.specs.declared.report.Report.{Report}

@@ -1,4 +1,4 @@
-use Rattle.std.proofs.Common.{◌≡◌, ◌+◌, ℕ, List, [], ◌∷◌, ◌++◌, length, length-append, sym, ap, ◌∙◌, subst, arith}
+use Rattle.std.proofs.Common.{◌≡◌, List, [], ◌∷◌, ◌++◌, length-append, sym, ◌∙◌, subst, arith}
 use Rattle.rl_text.specs.Lines.{Reading}
 use Rattle.rl_model.specs.declared.report.Outcome.{Outcome}
 use Rattle.rl_domain.specs.Tables.{Fits}
