@@ -4,7 +4,7 @@ use Rattle.rl_model.specs.declared.moves.Move.{Move}
 use Rattle.rl_model.specs.declared.network.NetworkPlan.{NetworkPlan}
 use Rattle.rl_model.specs.declared.report.Outcome.{Outcome}
 use Rattle.rl_model.specs.declared.report.Report.{Report}
-use Rattle.rl_model.specs.Moves.{AllHold, FirstFails, guard, done}
+use Rattle.rl_model.specs.Moves.{Guards, AllHold, FirstFails, guard, done}
 use Rattle.rl_model.specs.Safety.{Guarded, world_after}
 use Rattle.rl_model.specs.Reports.{FateFits, IsRightOutcome}
 use Rattle.rl_text.specs.Lines.{Reading}
@@ -39,17 +39,23 @@ pub record HasJudgedTrains (net : NetworkPlan) (report : Report) (j : Judge) : T
   pub trains : length j.counts.items ≡ length net.trains
   pub count : j.moves ≡ length report.moves
   pub good : j.failure ≡ None → IsGood net report.moves j.world j.counts.items
-  pub right : j.failure ≡ None → (t : ℕ) (o : Outcome) → slice_get report.outcomes t ≡ Some o → IsRightOutcome net report.tries report.moves t o
-  pub bad : (f : Failure) → j.failure ≡ Some f → IsFirstBadMove net report.moves f.line f.guard ⊎ IsFirstBadOutcome net report f.line f.guard
+  pub right : j.failure ≡ None → (t : ℕ) (o : Outcome) → slice_get report.outcomes t ≡ Some o
+      → IsRightOutcome net report.tries report.moves t o
+  pub bad : (f : Failure) → j.failure ≡ Some f
+      → IsFirstBadMove net report.moves f.line f.guard ⊎ IsFirstBadOutcome net report f.line f.guard
 
--- the outcome agrees with the count of train t, and its fate fits the world; or the guard that fails first
+-- the guards of the outcome of train t, in the words of its count and of the world
+abbrev pub counted_guards : NetworkPlan → ℕ → Judge → Count → ℕ → Outcome → Guards
+counted_guards net tries j x t o =
+    guard 25 ((o.made ≡ x.made) × (o.refused ≡ x.refused))
+    (guard 26 (FateFits net tries (world_of net j.world) t o.made o.refused o.fate) done)
+
+-- both hold, or the one that fails first
 abbrev pub OutcomeTested : NetworkPlan → ℕ → Judge → ℕ → Outcome → Option ℕ → Type 0
 OutcomeTested net tries j t o None =
-    (x : Count) → slice_get j.counts.items t ≡ Some x
-    → AllHold (guard 25 ((o.made ≡ x.made) × (o.refused ≡ x.refused)) (guard 26 (FateFits net tries (world_of net j.world) t o.made o.refused o.fate) done))
+    (x : Count) → slice_get j.counts.items t ≡ Some x → AllHold (counted_guards net tries j x t o)
 OutcomeTested net tries j t o (Some n) =
-    (x : Count) → slice_get j.counts.items t ≡ Some x
-    → FirstFails n (guard 25 ((o.made ≡ x.made) × (o.refused ≡ x.refused)) (guard 26 (FateFits net tries (world_of net j.world) t o.made o.refused o.fate) done))
+    (x : Count) → slice_get j.counts.items t ≡ Some x → FirstFails n (counted_guards net tries j x t o)
 
 -- the verdict says what was found
 abbrev pub VerdictIs : Judge → Verdict → Type 0
@@ -67,7 +73,8 @@ pub record JudgedMoves (net : NetworkPlan) (old new : Reading) (j : Judge) : Typ
 pub record JudgedTrains (net : NetworkPlan) (tries count : ℕ) (old new : Reading) (before after : Judge) : Type 0 where
   pub outcomes : List Outcome
   pub counted : length outcomes ≡ count
-  pub read : (text : List ℕ) (report : Report) → HasRead net text report old → report.outcomes ≡ [] → HasRead net text (record report { outcomes = outcomes }) new
+  pub read : (text : List ℕ) (report : Report) → HasRead net text report old → report.outcomes ≡ []
+      → HasRead net text (record report { outcomes = outcomes }) new
   pub judged : (report : Report) → report.tries ≡ tries → report.outcomes ≡ [] → HasJudgedTrains net report before
       → HasJudgedTrains net (record report { outcomes = outcomes }) after
   pub none : outcomes ≡ [] → new ≡ old

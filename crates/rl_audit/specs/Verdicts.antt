@@ -14,7 +14,8 @@ use Rattle.rl_report.specs.Grammar.{IsTextOf, IsLong}
 use Rattle.rl_audit.specs.declared.verdict.Verdict.{Verdict}
 use Rattle.rl_audit.specs.declared.verdict.Verdict.TheVariants.{Safe, Bad}
 
--- the guard is the first that fails at the move on the line, and those of every move before it hold. The first move stands on line 3
+-- the guard is the first that fails at the move on the line, and those of every move before it hold. The first move
+-- stands on line 3
 pub record IsFirstBadMove (net : NetworkPlan) (moves : List Move) (line guard : ℕ) : Type 0 where
   pub before : List Move
   pub move : Move
@@ -24,20 +25,23 @@ pub record IsFirstBadMove (net : NetworkPlan) (moves : List Move) (line guard : 
   pub fails : FirstFails guard (guards net (world_after net before) move)
   pub place : line ≡ length before + 3
 
--- the guard is the first that fails at the outcome on the line, and those of every move and of the outcomes before it hold
+-- the guard is the first that fails at the outcome on the line, and those of every move and of the outcomes before
+-- it hold
 pub record IsFirstBadOutcome (net : NetworkPlan) (report : Report) (line guard : ℕ) : Type 0 where
   pub guarded : Guarded net report.moves
   pub train : ℕ
   pub outcome : Outcome
   pub there : slice_get report.outcomes train ≡ Some outcome
-  pub before : (t : ℕ) (o : Outcome) → t < train → slice_get report.outcomes t ≡ Some o → IsRightOutcome net report.tries report.moves t o
+  pub before : (t : ℕ) (o : Outcome) → t < train → slice_get report.outcomes t ≡ Some o
+      → IsRightOutcome net report.tries report.moves t o
   pub fails : FirstFails guard (outcome_guards net report.tries report.moves train outcome)
   pub place : line ≡ length report.moves + train + 3
 
 -- the verdict on the report
 abbrev pub IsVerdict : NetworkPlan → Report → Verdict → Type 0
 IsVerdict net report (Safe moves) = (moves ≡ length report.moves) × IsRightReport net report
-IsVerdict net report (Bad line guard) = IsFirstBadMove net report.moves line guard ⊎ IsFirstBadOutcome net report line guard
+IsVerdict net report (Bad line guard) =
+    IsFirstBadMove net report.moves line guard ⊎ IsFirstBadOutcome net report line guard
 
 -- the text is that of a report, and the verdict is the one on it
 pub record IsVerdictOn (net : NetworkPlan) (text : List ℕ) (verdict : Verdict) : Type 0 where

@@ -51,7 +51,8 @@ fn judge_trains(
     requires fits { Fits net.now judge.old.world }
     requires trains { length judge.old.counts.items ≡ length net.now.trains }
     requires few { judge.old.moves ≤ most_moves }
-    ensures ok { OnOk result (JudgedTrains net.now tries (length net.now.trains) lines.old lines.new judge.old judge.new) }
+    ensures ok { OnOk result
+        (JudgedTrains net.now tries (length net.now.trains) lines.old lines.new judge.old judge.new) }
     ensures err { IfErr result (λ e. (text : List ℕ) (report : Report)
         → HasRead net.now text report lines.old → report.outcomes ≡ [] → HasNoMove net.now lines.old.left
         → IsFault net.now text e) }

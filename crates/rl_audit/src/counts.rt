@@ -1,4 +1,5 @@
-ghost use Rattle.std.specs.Prelude.{◌≡◌, ◌+◌, ◌<◌, ◌^◌, [], ◌∷◌, ◌++◌, ℕ, List, length, slice_get, slice_set, Some, IfOk};
+ghost use Rattle.std.specs.Prelude.{◌≡◌, ◌+◌, ◌<◌, ◌^◌, [], ◌∷◌, ◌++◌};
+ghost use Rattle.std.specs.Prelude.{ℕ, List, length, slice_get, slice_set, Some, IfOk};
 ghost use Rattle.rl_model.specs.declared.moves.Move.{Move};
 ghost use Rattle.rl_audit.specs.Counting.{AreCounts, IsCounted};
 ghost use Rattle.rl_audit.specs.declared.counts.Count.{Count};

@@ -8,7 +8,8 @@ use Rattle.rl_report.specs.declared.refusal.ReportRefusal.TheVariants.{Line, Lon
 use Rattle.rl_report.specs.Grammar.{IsTextOf, IsFirstFault, IsLong}
 use Rattle.rl_report.specs.Reading.{HasMoves}
 
--- the cause of each refusal: a text that is too long, and only of one that isn't its first fault. Want of memory has no cause
+-- the cause of each refusal: a text that is too long, and only of one that isn't its first fault. Want of memory has
+-- no cause
 abbrev pub IsCause : NetworkPlan → List ℕ → ReportRefusal → Type 0
 IsCause net text (Line n) = (IsLong net text → ⊥) × IsFirstFault net text n
 IsCause net text Long = IsLong net text

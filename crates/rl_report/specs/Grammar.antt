@@ -1,4 +1,5 @@
--- The grammar of a report, over the lines of its text: which lines are there, and which is the first that isn't as it must be.
+-- The grammar of a report, over the lines of its text: which lines are there, and which is the first that isn't as
+-- it must be.
 use Rattle.std.specs.Prelude.{◌≡◌, ℕ, ◌+◌, ◌-◌, ◌<◌, true, List, [], ◌∷◌, ◌++◌, length, slice_get, Some, ◌⊎◌}
 use Rattle.std.specs.List.{join_with_byte}
 use Rattle.rl_text.specs.Lines.{Line, lines_of, longest_text}
@@ -34,8 +35,8 @@ pub record BeginsReport (net : NetworkPlan) (text : List ℕ) (k : ℕ) : Type 0
   pub of : IsReportOf net report
   pub same : (i : ℕ) → i < k → slice_get (lines_of text) i ≡ slice_get (lines_of (report_text net report)) i
 
--- line n, counted from 1, is the first that isn't as it must be: a report begins with the lines before it, and none with
--- it besides. So does a line that is missing, or one too many
+-- line n, counted from 1, is the first that isn't as it must be: a report begins with the lines before it, and none
+-- with it besides. So does a line that is missing, or one too many
 pub record IsFirstFault (net : NetworkPlan) (text : List ℕ) (n : ℕ) : Type 0 where
   pub before : BeginsReport net text (n - 1)
   pub fault : BeginsReport net text n → ⊥
@@ -50,7 +51,8 @@ most_moves = 1000000
 
 -- the line at place i is that of a move
 abbrev pub HasMoveAt : NetworkPlan → List ℕ → ℕ → Type 0
-HasMoveAt net text i = (m : Move) × IsMoveOf net m × (slice_get (lines_of text) i ≡ Some (whole_line (move_words net m)))
+HasMoveAt net text i =
+    (m : Move) × IsMoveOf net m × (slice_get (lines_of text) i ≡ Some (whole_line (move_words net m)))
 
 -- the text has too many bytes, or more lines of moves behind its second line than a report may have
 abbrev pub IsLong : NetworkPlan → List ℕ → Type 0

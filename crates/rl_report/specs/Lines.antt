@@ -5,7 +5,8 @@ use Rattle.rl_text.specs.Lines.{Line, Reading, longest_text}
 use Rattle.rl_text.specs.declared.tokens.TextLine.{TextLine}
 
 abbrev pub left_in : Option TextLine → List Line → List Line
-left_in next lines = option_map_or (λ (line : TextLine). record { text = line.text.now; whole = line.whole } ∷ lines) next lines
+left_in next lines =
+    option_map_or (λ (line : TextLine). record { text = line.text.now; whole = line.whole } ∷ lines) next lines
 
 -- the next line was taken, if there is one, and its number isn't too large
 pub record Counts (given : ℕ) (next : Option TextLine) (tokens : Reading) : Type 0 where

@@ -1,7 +1,8 @@
 -- The first word of each move's line.
 use Rattle.std.specs.Prelude.{ℕ, List, codes}
 use Rattle.rl_report.specs.declared.moves.MoveName.{MoveName}
-use Rattle.rl_report.specs.declared.moves.MoveName.TheVariants.{Reserve, Release, Lock, Unlock, Throw, Settle, Enter, Leave, Refuse, Bar}
+use Rattle.rl_report.specs.declared.moves.MoveName.TheVariants.{Reserve, Release, Lock, Unlock, Throw}
+use Rattle.rl_report.specs.declared.moves.MoveName.TheVariants.{Settle, Enter, Leave, Refuse, Bar}
 
 abbrev pub name_word : MoveName → List ℕ
 name_word Reserve = codes "reserve"

@@ -1,5 +1,6 @@
 -- How far a report was read.
-use Rattle.std.specs.Prelude.{◌≡◌, ℕ, suc, ◌+◌, ◌≤◌, true, List, [], ◌∷◌, ◌++◌, length, drop, map, codes, decimal, slice_get, Option, Some, None, if◌then◌else◌}
+use Rattle.std.specs.Prelude.{◌≡◌, ℕ, suc, ◌+◌, ◌≤◌, true, List, [], ◌∷◌, ◌++◌}
+use Rattle.std.specs.Prelude.{length, drop, map, codes, decimal, slice_get, Option, Some, None, if◌then◌else◌}
 use Rattle.rl_text.specs.Lines.{Line, Reading, lines_of}
 use Rattle.rl_model.specs.declared.moves.Move.{Move}
 use Rattle.rl_model.specs.declared.network.NetworkPlan.{NetworkPlan}
@@ -30,7 +31,8 @@ train_lines net t (o ∷ os) = whole_line (outcome_words net t o) ∷ train_line
 
 -- the lines of a report but the last
 abbrev pub front_lines : NetworkPlan → Report → List Line
-front_lines net report = head_line ∷ tries_line report.tries ∷ move_lines net report.moves ++ train_lines net 0 report.outcomes
+front_lines net report =
+    head_line ∷ tries_line report.tries ∷ move_lines net report.moves ++ train_lines net 0 report.outcomes
 
 -- the text of the next line, if an LF ends it
 abbrev pub next_text : List Line → Option (List ℕ)

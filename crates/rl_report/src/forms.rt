@@ -85,11 +85,14 @@ pub(crate) fn train_box_segments(
     words: &mut Words<'_>,
     net: &Network,
 ) -> Option<(TrainId, BoxId, SegId, SegId)>
-    ensures some { IfSome result (λ x. IsTrainOf net.now x.0 × IsBoxOf net.now x.1 × IsSegmentOf net.now x.2 × IsSegmentOf net.now x.3
-        × (words.old ≡ train_name net.now x.0.0 ∷ box_name net.now x.1.0 ∷ segment_name net.now x.2.0 ∷ segment_name net.now x.3.0 ∷ [])) }
+    ensures some { IfSome result (λ x. IsTrainOf net.now x.0 × IsBoxOf net.now x.1 × IsSegmentOf net.now x.2
+        × IsSegmentOf net.now x.3
+        × (words.old ≡ train_name net.now x.0.0 ∷ box_name net.now x.1.0 ∷ segment_name net.now x.2.0
+        ∷ segment_name net.now x.3.0 ∷ [])) }
     ensures none { IfNone result ((t : TrainId) (b : BoxId) (s : SegId) (s2 : SegId)
         → IsTrainOf net.now t → IsBoxOf net.now b → IsSegmentOf net.now s → IsSegmentOf net.now s2
-        → words.old ≢ train_name net.now t.0 ∷ box_name net.now b.0 ∷ segment_name net.now s.0 ∷ segment_name net.now s2.0 ∷ []) }
+        → words.old ≢ train_name net.now t.0 ∷ box_name net.now b.0 ∷ segment_name net.now s.0
+        ∷ segment_name net.now s2.0 ∷ []) }
 {
     let t = words.train(net)?;
     let b = words.switch_box(net)?;
@@ -136,11 +139,14 @@ pub(crate) fn train_segment_box_train(
     words: &mut Words<'_>,
     net: &Network,
 ) -> Option<(TrainId, SegId, BoxId, TrainId)>
-    ensures some { IfSome result (λ x. IsTrainOf net.now x.0 × IsSegmentOf net.now x.1 × IsBoxOf net.now x.2 × IsTrainOf net.now x.3
-        × (words.old ≡ train_name net.now x.0.0 ∷ segment_name net.now x.1.0 ∷ box_name net.now x.2.0 ∷ train_name net.now x.3.0 ∷ [])) }
+    ensures some { IfSome result (λ x. IsTrainOf net.now x.0 × IsSegmentOf net.now x.1 × IsBoxOf net.now x.2
+        × IsTrainOf net.now x.3
+        × (words.old ≡ train_name net.now x.0.0 ∷ segment_name net.now x.1.0 ∷ box_name net.now x.2.0
+        ∷ train_name net.now x.3.0 ∷ [])) }
     ensures none { IfNone result ((t : TrainId) (s : SegId) (b : BoxId) (u : TrainId)
         → IsTrainOf net.now t → IsSegmentOf net.now s → IsBoxOf net.now b → IsTrainOf net.now u
-        → words.old ≢ train_name net.now t.0 ∷ segment_name net.now s.0 ∷ box_name net.now b.0 ∷ train_name net.now u.0 ∷ []) }
+        → words.old ≢ train_name net.now t.0 ∷ segment_name net.now s.0 ∷ box_name net.now b.0
+        ∷ train_name net.now u.0 ∷ []) }
 {
     let t = words.train(net)?;
     let s = words.segment(net)?;
@@ -175,7 +181,8 @@ pub(crate) fn only_box(words: &mut Words<'_>, net: &Network) -> Option<BoxId>
 
 /// Reads the last words of a line: a box and a side.
 pub(crate) fn box_side(words: &mut Words<'_>, net: &Network) -> Option<(BoxId, Side)>
-    ensures some { IfSome result (λ x. IsBoxOf net.now x.0 × (words.old ≡ box_name net.now x.0.0 ∷ side_word x.1 ∷ [])) }
+    ensures some { IfSome result (λ x. IsBoxOf net.now x.0
+        × (words.old ≡ box_name net.now x.0.0 ∷ side_word x.1 ∷ [])) }
     ensures none { IfNone result ((b : BoxId) (side : Side)
         → IsBoxOf net.now b
         → words.old ≢ box_name net.now b.0 ∷ side_word side ∷ []) }

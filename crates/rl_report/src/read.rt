@@ -1,4 +1,5 @@
-ghost use Rattle.std.specs.Prelude.{◌≡◌, ◌+◌, ◌<◌, ◌≤◌, [], ℕ, List, length, drop, OnOk, OnErr, IfOk, IfErr, ◌↔◌, IsTrue};
+ghost use Rattle.std.specs.Prelude.{◌≡◌, ◌+◌, ◌<◌, ◌≤◌, [], ℕ, List};
+ghost use Rattle.std.specs.Prelude.{length, drop, OnOk, OnErr, IfOk, IfErr, ◌↔◌, IsTrue};
 ghost use Rattle.rl_text.specs.Lines.{Reading, lines_of, longest_text};
 ghost use Rattle.rl_model.specs.declared.moves.Move.{Move};
 ghost use Rattle.rl_model.specs.declared.network.NetworkPlan.{NetworkPlan};
@@ -29,7 +30,8 @@ fn read_moves(
     net: &Network,
     lines: &mut ReportLines<'_>,
 ) -> Result<Moves, ReportRefusal>
-    ensures ok { IfOk result (λ moves. (text : List ℕ) → HasMoves net.now text [] lines.old → HasMoves net.now text moves lines.new) }
+    ensures ok { IfOk result (λ moves. (text : List ℕ) → HasMoves net.now text [] lines.old
+        → HasMoves net.now text moves lines.new) }
     ensures few { IfOk result (λ moves. length moves ≤ most_moves) }
     ensures none { OnOk result (HasNoMove net.now lines.new.left) }
     ensures err { IfErr result (TooMany net.now lines.old) }

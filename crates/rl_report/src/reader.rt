@@ -1,4 +1,5 @@
-ghost use Rattle.std.specs.Prelude.{◌≡◌, ◌≢◌, ◌+◌, ◌<◌, ◌≤◌, ◌↔◌, [], ◌∷◌, ◌++◌, ℕ, List, length, drop, codes, Some, IsSome, IsTrue, IfSome, IfNone, OnOk, IfOk, IfErr};
+ghost use Rattle.std.specs.Prelude.{◌≡◌, ◌≢◌, ◌+◌, ◌<◌, ◌≤◌, ◌↔◌, [], ◌∷◌, ◌++◌, ℕ, List};
+ghost use Rattle.std.specs.Prelude.{length, drop, codes, Some, IsSome, IsTrue, IfSome, IfNone, OnOk, IfOk, IfErr};
 ghost use Rattle.std.specs.Option.{option_copied};
 ghost use Rattle.rl_text.specs.Lines.{Reading, lines_of, longest_text};
 ghost use Rattle.rl_model.specs.declared.moves.Move.{Move};

@@ -79,7 +79,8 @@ impl<'a> Words<'a> {
     /// Reads the next word as the name of a train.
     pub(crate) fn train(&mut self, net: &Network) -> Option<TrainId>
         ensures some { IfSome result (λ t. IsTrainOf net.now t × (self.old ≡ train_name net.now t.0 ∷ self.new)) }
-        ensures none { IfNone result ((t : TrainId) (rest : List (List ℕ)) → IsTrainOf net.now t → self.old ≢ train_name net.now t.0 ∷ rest) }
+        ensures none { IfNone result ((t : TrainId) (rest : List (List ℕ)) → IsTrainOf net.now t
+            → self.old ≢ train_name net.now t.0 ∷ rest) }
     {
         match self.next() {
             Some(word) => net.find_train(word),
@@ -90,7 +91,8 @@ impl<'a> Words<'a> {
     /// Reads the next word as the name of a segment.
     pub(crate) fn segment(&mut self, net: &Network) -> Option<SegId>
         ensures some { IfSome result (λ s. IsSegmentOf net.now s × (self.old ≡ segment_name net.now s.0 ∷ self.new)) }
-        ensures none { IfNone result ((s : SegId) (rest : List (List ℕ)) → IsSegmentOf net.now s → self.old ≢ segment_name net.now s.0 ∷ rest) }
+        ensures none { IfNone result ((s : SegId) (rest : List (List ℕ)) → IsSegmentOf net.now s
+            → self.old ≢ segment_name net.now s.0 ∷ rest) }
     {
         match self.next() {
             Some(word) => net.find_seg(word),
@@ -101,7 +103,8 @@ impl<'a> Words<'a> {
     /// Reads the next word as the name of a box.
     pub(crate) fn switch_box(&mut self, net: &Network) -> Option<BoxId>
         ensures some { IfSome result (λ b. IsBoxOf net.now b × (self.old ≡ box_name net.now b.0 ∷ self.new)) }
-        ensures none { IfNone result ((b : BoxId) (rest : List (List ℕ)) → IsBoxOf net.now b → self.old ≢ box_name net.now b.0 ∷ rest) }
+        ensures none { IfNone result ((b : BoxId) (rest : List (List ℕ)) → IsBoxOf net.now b
+            → self.old ≢ box_name net.now b.0 ∷ rest) }
     {
         match self.next() {
             Some(word) => net.find_box(word),
