@@ -1,41 +1,32 @@
 -- The fault of a text is its first refusal.
-use Rattle.std.proofs.Common.{ℕ, List, Ok, Err}
+use Rattle.std.proofs.Common.{◌≡◌, ℕ, List, Some, Ok, Err, refl}
 use Rattle.rl_base.specs.declared.draft.Draft.{Draft}
 use Rattle.rl_base.specs.declared.place.Place.{Place}
 use Rattle.rl_syntax.specs.declared.refusal.SyntaxRefusal.{SyntaxRefusal}
 use Rattle.rl_syntax.specs.declared.refusal.SyntaxRefusal.TheVariants as syntax
 use Rattle.rl_syntax.specs.Answer.{UnlessMemory}
 use Rattle.rl_syntax.specs.Meaning.{Means}
-use Rattle.rl_model.specs.Refusals as rules
-use Rattle.rl_model.specs.Refusals.{Rule, first_refusal, number_of}
-use Rattle.rl_model.proofs.Refusals.{first_refusal-some}
+use Rattle.rl_syntax.specs.SyntaxRefusals as reading
+use Rattle.rl_drafts.specs.Search.{first_refusal}
+use Rattle.rl_drafts.proofs.Refusals.{first_refusal-some}
 use Rattle.rl_net.specs.declared.refusal.NetRefusal.{NetRefusal}
-use Rattle.rl_net.specs.declared.refusal.NetRefusal.TheVariants as net
-use Rattle.rl_net.specs.NetRefusals.{IsRefusal, IsFirst}
-use Rattle.relis.specs.Accepted.{IsRefusedAs, too_long, not_toml, key, bad_name, broken}
-use Rattle.relis.specs.Refusals.{IsFaultOf, fault_of_syntax, fault_of_network}
+use Rattle.rl_net.specs.declared.refusal.NetRefusal.TheVariants as rule
+use Rattle.rl_net.specs.NetRefusals as network
+use Rattle.rl_net.specs.NetRefusals.{IsRefusal}
+use Rattle.relis.specs.Networks.{IsRefusedAs, unread, broken}
 
-pub syntax_fault : (text : List ℕ) (refusal : SyntaxRefusal) → UnlessMemory (Err refusal) (Means text (Err refusal)) → IsFaultOf text (fault_of_syntax refusal)
-syntax_fault text syntax.TooLong means = too_long means
-syntax_fault text syntax.NotToml means = not_toml means
-syntax_fault text (syntax.Key p) means = key p means
-syntax_fault text (syntax.BadName p) means = bad_name p means
-syntax_fault text syntax.NoMemory means = tt
+-- a refusal of the reading refuses the text, unless memory ran out
+pub by_reading : (text : List ℕ) (r : SyntaxRefusal) → (r ≡ syntax.NoMemory → ⊥) → UnlessMemory (Err r) (Means text (Err r)) →
+    IsRefusedAs text (reading.refusal_number r) (reading.refusal_place r)
+by_reading text syntax.NoMemory some means = absurd (some refl)
+by_reading text r some means = unread r means
+
+at_rule : (text : List ℕ) (d : Draft) (n : ℕ) (p : Place) → Means text (Ok d) → first_refusal d ≡ Some (record { number = n; place = p }) →
+    IsRefusedAs text n p
+at_rule text d n p says first = broken d n p says (first_refusal-some d (record { number = n; place = p }) first)
 
 -- the first rule that the draft of a text breaks refuses the text
-by_rule : (text : List ℕ) (d : Draft) (rule : Rule) (p : Place) → Means text (Ok d) → IsFirst (first_refusal d) rule p → IsRefusedAs text (number_of rule) p
-by_rule text d rule p says first = broken d rule p says (first_refusal-some d (record { rule = rule; place = p }) first)
-
-pub network_fault : (text : List ℕ) (d : Draft) (refusal : NetRefusal) → Means text (Ok d) → IsRefusal refusal (first_refusal d) → IsFaultOf text (fault_of_network refusal)
-network_fault text d (net.Count p) says first = by_rule text d rules.Count p says first
-network_fault text d (net.Twice p) says first = by_rule text d rules.Twice p says first
-network_fault text d (net.ArmCount p) says first = by_rule text d rules.ArmCount p says first
-network_fault text d (net.NoSegment p) says first = by_rule text d rules.NoSegment p says first
-network_fault text d (net.SameBox p) says first = by_rule text d rules.SameBox p says first
-network_fault text d (net.Ends p) says first = by_rule text d rules.Ends p says first
-network_fault text d (net.At p) says first = by_rule text d rules.At p says first
-network_fault text d (net.RouteShape p) says first = by_rule text d rules.RouteShape p says first
-network_fault text d (net.RouteName p) says first = by_rule text d rules.RouteName p says first
-network_fault text d (net.RouteFit p) says first = by_rule text d rules.RouteFit p says first
-network_fault text d (net.StartShared p) says first = by_rule text d rules.StartShared p says first
-network_fault text d net.NoMemory says first = tt
+pub by_rule : (text : List ℕ) (d : Draft) (r : NetRefusal) → (r ≡ rule.NoMemory → ⊥) → Means text (Ok d) →
+    IsRefusal r (first_refusal d) → IsRefusedAs text (network.refusal_number r) (network.refusal_place r)
+by_rule text d rule.NoMemory some says first = absurd (some refl)
+by_rule text d r some says first = at_rule text d (network.refusal_number r) (network.refusal_place r) says first

@@ -1,4 +1,4 @@
-pub mod TooLong
-pub mod Expected
-pub mod Judgements
+pub mod Causes
 pub mod Faults
+pub mod Judgements
+pub mod TooLong

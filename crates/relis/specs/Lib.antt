@@ -1,10 +1,6 @@
-pub mod Orders
-pub mod Judged
+pub mod Answers
+pub mod Calls
+pub mod Exits
 pub mod Lines
-pub mod Texts
-pub mod Meaning
-pub mod Written
-pub mod Refusals
-pub mod Decisions
-pub mod Statuses
-pub mod Accepted
+pub mod Networks
+pub mod Orders

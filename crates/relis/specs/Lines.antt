@@ -1,8 +1,9 @@
 -- The lines that the program prints besides a command's own text.
-use Rattle.std.specs.Prelude.{ℕ, ◌+◌, ◌*◌, List, [], ◌++◌, length, codes, decimal}
+use Rattle.std.specs.Prelude.{ℕ, ◌+◌, ◌*◌, List, [], ◌∷◌, ◌++◌, length, codes, decimal}
 use Rattle.rl_base.specs.declared.place.Place.{Place}
 use Rattle.rl_base.specs.declared.place.Place.TheVariants as place
 use Rattle.rl_model.specs.declared.network.NetworkPlan.{NetworkPlan}
+use Rattle.rl_model.specs.ReportText.{line_of}
 
 -- a key of the item at an index, as `box[3].name`
 abbrev pub item_text : List ℕ → ℕ → List ℕ → List ℕ
@@ -40,7 +41,7 @@ abbrev pub read_fault_line : List ℕ
 read_fault_line = codes "read fault\n"
 
 abbrev pub refused_line : ℕ → Place → List ℕ
-refused_line number place = codes "refused " ++ decimal number ++ codes " " ++ place_text place ++ codes "\n"
+refused_line number place = line_of (codes "refused" ∷ decimal number ∷ place_text place ∷ [])
 
 -- what `check` prints of an accepted network
 abbrev pub accepted_line : NetworkPlan → List ℕ

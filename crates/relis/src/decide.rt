@@ -1,26 +1,20 @@
-ghost use Rattle.std.specs.Prelude.{◌≡◌, ◌≢◌, ℕ, ◌≤◌, List, IfOk, IfSome};
-ghost use Rattle.rl_outside.specs.Causes.{Rose};
-ghost use Rattle.relis.specs.Orders.{order_of, net_of};
-ghost use Rattle.relis.specs.Written.{order_as, HasFewRounds};
-ghost use Rattle.relis.specs.Meaning.{IsTextOf, IsAnswerTo, LeadsTo, IsNamed, NamedRose};
-ghost use Rattle.relis.specs.Decisions.{IsDecided};
+ghost use Rattle.std.specs.Prelude.{◌≡◌, ◌≢◌, ℕ, ◌≤◌, List, Some, IfOk};
+ghost use Rattle.relis.specs.Answers.{IsTextOf, IsAnswerOn, LeadsTo, IsNamed};
+ghost use Rattle.relis.specs.Orders.{order_of, network_file, IsWithinLimits};
 
 use crate::judge::{NetworkFault, judge};
 use crate::lines::{accepted, read_fault, refused, usage};
 use crate::orders::{Order, order_of};
 use crate::status::Status;
+use rl_base::limits::{DEFAULT_TRIES, MAX_NETWORK_BYTES};
 use rl_base::{Args, NoMemory, Place};
 use rl_direct::drive;
 use rl_net::Network;
 use rl_outside::{Fetch, Files};
 use rl_report::report_text;
-use rl_syntax::MAX_TEXT;
 use rl_tables::{compile, tables_text};
 use rl_text::Out;
 use std::alloc::Global;
-
-/// How many attempts each train has.
-const TRIES: u32 = 100;
 
 /// An answer, and the text that goes with it.
 #[derive(Debug, Drop)]
@@ -30,9 +24,9 @@ pub struct Decision {
 }
 
 /// The text of an order on an accepted network.
-fn text_of(alloc: Global, order: Order<'_>, net: &Network) -> Result<Out, NoMemory>
-    requires { HasFewRounds order }
-    ensures { IfOk result (IsTextOf (order_as order.entry) net.now) }
+fn text_of(alloc: Global, order: &Order, net: &Network) -> Result<Out, NoMemory>
+    requires { IsWithinLimits order.now }
+    ensures { IfOk result (IsTextOf order.now net.now) }
 {
     match order {
         Order::Check { .. } => accepted(alloc, net),
@@ -41,16 +35,16 @@ fn text_of(alloc: Global, order: Order<'_>, net: &Network) -> Result<Out, NoMemo
             tables_text(alloc, net, &line)
         }
         Order::Drive { rounds, .. } => {
-            let report = drive(alloc, net, rounds, TRIES)?;
+            let report = drive(alloc, net, *rounds, DEFAULT_TRIES)?;
             report_text(alloc, net, &report)
         }
     }
 }
 
 /// Carries the order out on a network text.
-fn answer_to(alloc: Global, order: Order<'_>, bytes: &[u8]) -> Result<Decision, NoMemory>
-    requires { HasFewRounds order }
-    ensures { IfOk result (λ d. IsAnswerTo (order_as order.entry) bytes.now d.status d.text) }
+fn answer_on(alloc: Global, order: &Order, bytes: &[u8]) -> Result<Decision, NoMemory>
+    requires { IsWithinLimits order.now }
+    ensures { IfOk result (λ d. IsAnswerOn order.now bytes.now d.status d.text) }
 {
     match judge(alloc, bytes) {
         Ok(net) => Ok(Decision {
@@ -66,16 +60,16 @@ fn answer_to(alloc: Global, order: Order<'_>, bytes: &[u8]) -> Result<Decision, 
 }
 
 /// Fetches the network text and carries the order out on it.
-fn carry_out<F: Files>(alloc: Global, order: Order<'_>, files: &mut F) -> Result<Decision, NoMemory>
-    requires { HasFewRounds order }
-    ensures decided { IfOk result (λ d. IsDecided (F.held files.old) (order_as order.entry) d.status d.text) }
-    ensures cause { IfOk result (λ d. d.status ≡ Status.ReadFault → Rose (F.faults files.old (net_of (order_as order.entry))) (F.faults files.new (net_of (order_as order.entry)))) }
+fn carry_out<F: Files>(alloc: Global, order: &Order, files: &mut F) -> Result<Decision, NoMemory>
+    requires { IsWithinLimits order.now }
+    ensures leads { IfOk result (λ d. (words : List (List ℕ)) → order_of words ≡ Some order.now →
+        LeadsTo words (F.held files.old) (F.faults files.old) (F.faults files.new) d.status d.text) }
     ensures files_stay { (n : List ℕ) → F.held files.new n ≡ F.held files.old n }
+    ensures others { (n : List ℕ) → n ≢ network_file order.now → F.faults files.new n ≡ F.faults files.old n }
     ensures later { (n : List ℕ) → F.faults files.old n ≤ F.faults files.new n }
-    ensures others { (n : List ℕ) → n ≢ net_of (order_as order.entry) → F.faults files.new n ≡ F.faults files.old n }
 {
-    match files.fetch(alloc, order.net(), MAX_TEXT) {
-        Ok(bytes) => answer_to(alloc, order, bytes.as_slice()),
+    match files.fetch(alloc, order.net(), MAX_NETWORK_BYTES) {
+        Ok(bytes) => answer_on(alloc, order, bytes.as_slice()),
         Err(Fetch::Failed) => Ok(Decision {
             status: Status::ReadFault,
             text: read_fault(alloc)?,
@@ -93,14 +87,14 @@ fn carry_out<F: Files>(alloc: Global, order: Order<'_>, files: &mut F) -> Result
 
 /// What the words lead to, with nothing put yet.
 pub fn decide<F: Files>(alloc: Global, words: &Args, files: &mut F) -> Result<Decision, NoMemory>
-    ensures leads { IfOk result (λ d. LeadsTo words.now (F.held files.old) d.status d.text) }
-    ensures cause { IfOk result (λ d. d.status ≡ Status.ReadFault → NamedRose words.now (F.faults files.old) (F.faults files.new)) }
+    ensures leads { IfOk result (λ d.
+        LeadsTo words.now (F.held files.old) (F.faults files.old) (F.faults files.new) d.status d.text) }
     ensures files_stay { (n : List ℕ) → F.held files.new n ≡ F.held files.old n }
-    ensures later { (n : List ℕ) → F.faults files.old n ≤ F.faults files.new n }
     ensures others { (n : List ℕ) → ¬ IsNamed words.now n → F.faults files.new n ≡ F.faults files.old n }
+    ensures later { (n : List ℕ) → F.faults files.old n ≤ F.faults files.new n }
 {
-    match order_of(words) {
-        Some(order) => carry_out(alloc, order, files),
+    match order_of(alloc, words)? {
+        Some(order) => carry_out(alloc, &order, files),
         None => Ok(Decision {
             status: Status::Usage,
             text: usage(alloc)?,

@@ -1,9 +1,13 @@
-ghost use Rattle.std.specs.Prelude.{◌≡◌, IfOk, IfErr};
-ghost use Rattle.relis.specs.Accepted.{IsAcceptedAs};
-ghost use Rattle.relis.specs.Refusals.{IsFaultOf, fault_of_syntax, fault_of_network};
+ghost use Rattle.std.specs.Prelude.{◌≡◌, ℕ, List, IfOk, IfErr, Ok, Err};
+ghost use Rattle.rl_base.specs.declared.draft.Draft.{Draft};
+ghost use Rattle.rl_drafts.specs.Search.{first_refusal};
+ghost use Rattle.rl_net.specs.NetRefusals.{IsRefusal};
+ghost use Rattle.rl_syntax.specs.Answer.{UnlessMemory};
+ghost use Rattle.rl_syntax.specs.Meaning.{Means};
+ghost use Rattle.relis.specs.Networks.{IsAcceptedAs, IsFaultOf};
 
 use rl_base::Place;
-use rl_model::first_refusals;
+use rl_drafts::first_refusals;
 use rl_net::{NetRefusal, Network, check};
 use rl_syntax::{SyntaxRefusal, read_draft};
 use std::alloc::Global;
@@ -21,34 +25,24 @@ fn refused(number: u32, place: Place) -> NetworkFault
     NetworkFault::Refused { number, place }
 }
 
+/// The fault that a refusal of the reading is.
 fn of_syntax(refusal: SyntaxRefusal) -> NetworkFault
-    ensures { result ≡ fault_of_syntax refusal }
+    ensures { (text : List ℕ) → UnlessMemory (Err refusal) (Means text (Err refusal)) → IsFaultOf text result }
 {
     match refusal {
-        SyntaxRefusal::TooLong => refused(1, Place::None),
-        SyntaxRefusal::NotToml => refused(2, Place::None),
-        SyntaxRefusal::Key(place) => refused(3, place),
-        SyntaxRefusal::BadName(place) => refused(4, place),
         SyntaxRefusal::NoMemory => NetworkFault::NoMemory,
+        _ => refused(refusal.number(), refusal.place()),
     }
 }
 
-fn of_network(refusal: NetRefusal) -> NetworkFault
-    ensures { result ≡ fault_of_network refusal }
+/// The fault that a refusal of the draft is.
+fn of_network(refusal: &NetRefusal) -> NetworkFault
+    ensures { (text : List ℕ) (d : Draft) → Means text (Ok d) → IsRefusal refusal.now (first_refusal d) →
+        IsFaultOf text result }
 {
     match refusal {
-        NetRefusal::Count(place) => refused(5, place),
-        NetRefusal::Twice(place) => refused(6, place),
-        NetRefusal::ArmCount(place) => refused(7, place),
-        NetRefusal::NoSegment(place) => refused(8, place),
-        NetRefusal::SameBox(place) => refused(9, place),
-        NetRefusal::Ends(place) => refused(10, place),
-        NetRefusal::At(place) => refused(11, place),
-        NetRefusal::RouteShape(place) => refused(12, place),
-        NetRefusal::RouteName(place) => refused(13, place),
-        NetRefusal::RouteFit(place) => refused(14, place),
-        NetRefusal::StartShared(place) => refused(15, place),
         NetRefusal::NoMemory => NetworkFault::NoMemory,
+        _ => refused(refusal.number(), refusal.place()),
     }
 }
 
@@ -64,6 +58,6 @@ pub fn judge(alloc: Global, text: &[u8]) -> Result<Network, NetworkFault>
     };
     match check(alloc, draft) {
         Ok(net) => Ok(net),
-        Err(refusal) => Err(of_network(refusal)),
+        Err(refusal) => Err(of_network(&refusal)),
     }
 }

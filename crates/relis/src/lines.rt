@@ -87,18 +87,18 @@ pub fn refused(alloc: Global, number: u32, place: Place) -> Result<Out, NoMemory
     ensures { IfOk result (λ out. out ≡ refused_line number place) }
 {
     let mut out = Out::new(alloc);
-    out.text(b"refused ")?;
-    out.number(u64::from(number))?;
+    out.text(b"refused")?;
+    out.count(number)?;
     out.text(b" ")?;
     put_place(&mut out, place)?;
     out.text(b"\n")?;
     Ok(out)
 }
 
-fn put_count(out: &mut Out, word: &[u8], count: u32) -> Result<(), NoMemory>
-    ensures { OnOk result (out.new ≡ out.old ++ word.now ++ decimal count) }
+fn put_count(out: &mut Out, words: &[u8], count: u32) -> Result<(), NoMemory>
+    ensures { OnOk result (out.new ≡ out.old ++ words.now ++ decimal count) }
 {
-    out.text(word)?;
+    out.text(words)?;
     out.number(u64::from(count))
 }
 

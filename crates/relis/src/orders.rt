@@ -1,34 +1,36 @@
-ghost use Rattle.std.specs.Prelude.{◌≡◌, option_map, IfSome};
-ghost use Rattle.relis.specs.Written.{order_as, HasFewRounds};
-ghost use Rattle.relis.specs.Orders.{order_of, net_of, is_positional, drive_order, command_on, net_order};
+ghost use Rattle.std.specs.Prelude.{◌≡◌, ◌≤◌, IfOk, IfSome, Contains};
+ghost use Rattle.relis.specs.Orders.{order_of, network_file, is_positional, rounds_of, command_on, net_order, drive_order, IsWithinLimits};
 
-use rl_base::Args;
+use rl_base::limits::MAX_ROUNDS;
+use rl_base::{Args, NoMemory, Text};
 use rl_text::read_number;
+use std::alloc::Global;
 
-/// The greatest number of rounds that may be asked for.
-const MAX_ROUNDS: u64 = 1_000_000;
-
-/// What a command line asks for. The names are words of it.
-#[derive(Clone, Copy, Debug)]
-pub enum Order<'a> {
-    Check { net: &'a str },
-    Tables { net: &'a str },
-    Drive { net: &'a str, rounds: u32 },
+/// What a command line asks for. The texts are names of files.
+#[derive(Debug, Drop)]
+pub enum Order {
+    /// Says whether the network text is accepted.
+    Check { net: Text },
+    /// Prints the network's tables.
+    Tables { net: Text },
+    /// Drives so many rounds from the start.
+    Drive { net: Text, rounds: u32 },
 }
 
-impl<'a> Order<'a> {
-    /// The name of the network text.
-    pub fn net(self) -> &'a str
-        ensures { result.now ≡ net_of (order_as self.entry) }
+impl Order {
+    /// Lends the name of the network's file, which every order reads first.
+    pub fn net(&self) -> &str
+        ensures { result.now ≡ network_file self.now }
     {
         match self {
-            Order::Check { net } => net,
-            Order::Tables { net } => net,
-            Order::Drive { net, .. } => net,
+            Order::Check { net } => net.as_str(),
+            Order::Tables { net } => net.as_str(),
+            Order::Drive { net, .. } => net.as_str(),
         }
     }
 }
 
+/// Whether a word can be the name of a file or a number.
 fn is_positional(word: &str) -> bool
     ensures { result ≡ is_positional word.now }
 {
@@ -36,54 +38,68 @@ fn is_positional(word: &str) -> bool
     !bytes.is_empty() && bytes[0] != b'-'
 }
 
-fn command_on<'a>(name: &str, net: &'a str) -> Option<Order<'a>>
-    ensures order { option_map order_as result ≡ command_on name.now net.now }
-    ensures few { IfSome result HasFewRounds }
+fn rounds_of(word: &str) -> Option<u32>
+    ensures value { result ≡ rounds_of word.now }
+    ensures few { IfSome result (λ rounds. rounds ≤ MAX_ROUNDS) }
+{
+    match read_number(word.as_bytes()) {
+        Some(rounds) if rounds <= MAX_ROUNDS => Some(rounds as u32),
+        _ => None,
+    }
+}
+
+fn command_on(alloc: Global, name: &str, net: &str) -> Result<Option<Order>, NoMemory>
+    ensures order { IfOk result (λ order. order ≡ command_on name.now net.now) }
+    ensures limits { IfOk result (λ order. IfSome order IsWithinLimits) }
 {
     match name {
-        "check" => Some(Order::Check { net }),
-        "tables" => Some(Order::Tables { net }),
-        _ => None,
+        "check" => Ok(Some(Order::Check {
+            net: Text::of(alloc, net)?,
+        })),
+        "tables" => Ok(Some(Order::Tables {
+            net: Text::of(alloc, net)?,
+        })),
+        _ => Ok(None),
     }
 }
 
 /// `check NET` or `tables NET`.
-fn net_order<'a>(name: &str, net: &'a str) -> Option<Order<'a>>
-    ensures order { option_map order_as result ≡ net_order name.now net.now }
-    ensures few { IfSome result HasFewRounds }
+fn net_order(alloc: Global, name: &str, net: &str) -> Result<Option<Order>, NoMemory>
+    ensures order { IfOk result (λ order. order ≡ net_order name.now net.now) }
+    ensures limits { IfOk result (λ order. IfSome order IsWithinLimits) }
 {
     if is_positional(net) {
-        command_on(name, net)
+        command_on(alloc, name, net)
     } else {
-        None
+        Ok(None)
     }
 }
 
 /// `drive NET N`.
-fn drive_order<'a>(name: &str, net: &'a str, n: &str) -> Option<Order<'a>>
-    ensures order { option_map order_as result ≡ drive_order name.now net.now n.now }
-    ensures few { IfSome result HasFewRounds }
+fn drive_order(alloc: Global, name: &str, net: &str, n: &str) -> Result<Option<Order>, NoMemory>
+    ensures order { IfOk result (λ order. order ≡ drive_order name.now net.now n.now) }
+    ensures limits { IfOk result (λ order. IfSome order IsWithinLimits) }
 {
-    if name != "drive" {
-        return None;
+    if name != "drive" || !is_positional(net) {
+        return Ok(None);
     }
-    match read_number(n.as_bytes()) {
-        Some(rounds) if rounds <= MAX_ROUNDS && is_positional(net) => Some(Order::Drive {
-            net,
-            rounds: rounds as u32,
-        }),
-        _ => None,
+    match rounds_of(n) {
+        Some(rounds) => Ok(Some(Order::Drive {
+            net: Text::of(alloc, net)?,
+            rounds,
+        })),
+        None => Ok(None),
     }
 }
 
 /// The order that the words give, `None` where they are no written form.
-pub fn order_of(words: &Args) -> Option<Order<'_>>
-    ensures order { option_map order_as result ≡ order_of words.now }
-    ensures few { IfSome result HasFewRounds }
+pub fn order_of(alloc: Global, words: &Args) -> Result<Option<Order>, NoMemory>
+    ensures order { IfOk result (λ order. order ≡ order_of words.now) }
+    ensures limits { IfOk result (λ order. IfSome order IsWithinLimits) }
 {
     match words.as_slice() {
-        [name, net] => net_order(name.as_str(), net.as_str()),
-        [name, net, n] => drive_order(name.as_str(), net.as_str(), n.as_str()),
-        _ => None,
+        [name, net] => net_order(alloc, name.as_str(), net.as_str()),
+        [name, net, n] => drive_order(alloc, name.as_str(), net.as_str(), n.as_str()),
+        _ => Ok(None),
     }
 }

@@ -20,7 +20,7 @@ pub enum Status {
 }
 
 impl Status {
-    ghost use Rattle.relis.specs.Statuses.{number_of};
+    ghost use Rattle.relis.specs.Exits.{number_of};
 
     /// The number with which the program ends.
     pub fn number(self) -> u8

@@ -5,39 +5,159 @@ use rl_outside::{MemFiles, MemSink};
 use std::alloc::Global;
 use std::test::Fail;
 
-const N1: &str =
-    "format = 1\nsegments = [\"A\", \"B\"]\n\n[[box]]\nname = \"W\"\nkind = \"buffer\"\narms = [\"A\"]\n\n[[box]]\nname = \"J1\"\nkind = \"joint\"\narms = [\"A\", \"B\"]\n\n[[box]]\nname = \"E\"\nkind = \"buffer\"\narms = [\"B\"]\n\n[[train]]\nname = \"T1\"\nroute = [\"A\", \"J1\", \"B\"]\n";
+/// A line of two segments, W, A, J1, B, E, and no train.
+const TRACK: &str = r#"format = 1
+segments = ["A", "B"]
+[[box]]
+name = "W"
+kind = "buffer"
+arms = ["A"]
+[[box]]
+name = "J1"
+kind = "joint"
+arms = ["A", "B"]
+[[box]]
+name = "E"
+kind = "buffer"
+arms = ["B"]
+"#;
 
-const N4: &str =
-    "format = 1\nsegments = [\"A\", \"B\"]\n\n[[box]]\nname = \"W\"\nkind = \"buffer\"\narms = [\"A\"]\n\n[[box]]\nname = \"J1\"\nkind = \"joint\"\narms = [\"A\", \"B\"]\n\n[[box]]\nname = \"E\"\nkind = \"buffer\"\narms = [\"B\"]\n\n[[train]]\nname = \"T1\"\nroute = [\"A\", \"J1\", \"B\"]\n\n[[train]]\nname = \"T2\"\nroute = [\"B\"]\n";
+/// The same with a train from A to B.
+const STRAIGHT: &str = r#"format = 1
+segments = ["A", "B"]
+[[box]]
+name = "W"
+kind = "buffer"
+arms = ["A"]
+[[box]]
+name = "J1"
+kind = "joint"
+arms = ["A", "B"]
+[[box]]
+name = "E"
+kind = "buffer"
+arms = ["B"]
+[[train]]
+name = "T1"
+route = ["A", "J1", "B"]
+"#;
 
-const N5: &str =
-    "format = 1\nsegments = [\"S\", \"L\", \"R\"]\n\n[[box]]\nname = \"W\"\nkind = \"buffer\"\narms = [\"S\"]\n\n[[box]]\nname = \"P\"\nkind = \"point\"\narms = [\"S\", \"L\", \"R\"]\nat = \"left\"\n\n[[box]]\nname = \"EL\"\nkind = \"buffer\"\narms = [\"L\"]\n\n[[box]]\nname = \"ER\"\nkind = \"buffer\"\narms = [\"R\"]\n\n[[train]]\nname = \"T1\"\nroute = [\"S\", \"P\", \"R\"]\n";
+/// A point P between the stem S and the branches L and R. The train wants to go right.
+const FORK: &str = r#"format = 1
+segments = ["S", "L", "R"]
+[[box]]
+name = "W"
+kind = "buffer"
+arms = ["S"]
+[[box]]
+name = "P"
+kind = "point"
+arms = ["S", "L", "R"]
+at = "left"
+[[box]]
+name = "EL"
+kind = "buffer"
+arms = ["L"]
+[[box]]
+name = "ER"
+kind = "buffer"
+arms = ["R"]
+[[train]]
+name = "T1"
+route = ["S", "P", "R"]
+"#;
 
-const N8: &str =
-    "format = 1\nsegments = [\"A\", \"B\", \"C\", \"D\"]\n\n[[box]]\nname = \"X\"\nkind = \"crossing\"\narms = [\"A\", \"B\", \"C\", \"D\"]\n\n[[box]]\nname = \"WA\"\nkind = \"buffer\"\narms = [\"A\"]\n\n[[box]]\nname = \"EB\"\nkind = \"buffer\"\narms = [\"B\"]\n\n[[box]]\nname = \"WC\"\nkind = \"buffer\"\narms = [\"C\"]\n\n[[box]]\nname = \"ED\"\nkind = \"buffer\"\narms = [\"D\"]\n\n[[train]]\nname = \"T1\"\nroute = [\"A\", \"X\", \"B\"]\n\n[[train]]\nname = \"T2\"\nroute = [\"C\", \"X\", \"D\"]\n";
+/// Two tracks that cross, with a train on each.
+const CROSSING: &str = r#"format = 1
+segments = ["A", "B", "C", "D"]
+box = [
+  { name = "X", kind = "crossing", arms = ["A", "B", "C", "D"] },
+  { name = "WA", kind = "buffer", arms = ["A"] },
+  { name = "EB", kind = "buffer", arms = ["B"] },
+  { name = "WC", kind = "buffer", arms = ["C"] },
+  { name = "ED", kind = "buffer", arms = ["D"] },
+]
+train = [{ name = "T1", route = ["A", "X", "B"] }, { name = "T2", route = ["C", "X", "D"] }]
+"#;
 
-const N9: &str =
-    "format = 1\nsegments = [\"A\", \"B\", \"C\"]\n\n[[box]]\nname = \"W\"\nkind = \"buffer\"\narms = [\"A\"]\n\n[[box]]\nname = \"J1\"\nkind = \"joint\"\narms = [\"A\", \"B\"]\n\n[[box]]\nname = \"J2\"\nkind = \"joint\"\narms = [\"B\", \"C\"]\n\n[[box]]\nname = \"E\"\nkind = \"buffer\"\narms = [\"C\"]\n\n[[train]]\nname = \"T1\"\nroute = [\"A\", \"J1\", \"B\"]\n\n[[train]]\nname = \"T2\"\nroute = [\"C\", \"J2\", \"B\"]\n";
+/// Two trains that want the segment between them.
+const HEAD_ON: &str = r#"format = 1
+segments = ["A", "B", "C"]
+box = [
+  { name = "W", kind = "buffer", arms = ["A"] },
+  { name = "J1", kind = "joint", arms = ["A", "B"] },
+  { name = "J2", kind = "joint", arms = ["B", "C"] },
+  { name = "E", kind = "buffer", arms = ["C"] },
+]
+train = [{ name = "T1", route = ["A", "J1", "B"] }, { name = "T2", route = ["C", "J2", "B"] }]
+"#;
 
-const N11: &str =
-    "format = 1\nsegments = [\"A\", \"B\"]\n\n[[box]]\nname = \"J1\"\nkind = \"joint\"\narms = [\"A\", \"B\"]\n\n[[box]]\nname = \"J2\"\nkind = \"joint\"\narms = [\"A\", \"B\"]\n\n[[train]]\nname = \"T1\"\nroute = [\"A\", \"J2\", \"B\"]\n";
+/// Two segments between the same two joints.
+const RING: &str = r#"format = 1
+segments = ["A", "B"]
+box = [
+  { name = "J1", kind = "joint", arms = ["A", "B"] },
+  { name = "J2", kind = "joint", arms = ["A", "B"] },
+]
+train = [{ name = "T1", route = ["A", "J2", "B"] }]
+"#;
 
-/// N1 without its train.
-const TRACK: &str =
-    "format = 1\nsegments = [\"A\", \"B\"]\n\n[[box]]\nname = \"W\"\nkind = \"buffer\"\narms = [\"A\"]\n\n[[box]]\nname = \"J1\"\nkind = \"joint\"\narms = [\"A\", \"B\"]\n\n[[box]]\nname = \"E\"\nkind = \"buffer\"\narms = [\"B\"]\n";
+/// A tram terminus: two platforms at each end, a passing loop between them, and four trams.
+const TERMINUS: &str = r#"format = 1
+segments = ["plat1", "plat2", "west", "mid", "up", "down", "east", "plat3", "plat4"]
+box = [
+  { name = "E1", kind = "buffer", arms = ["plat1"] },
+  { name = "E2", kind = "buffer", arms = ["plat2"] },
+  { name = "P1", kind = "point", arms = ["west", "plat1", "plat2"], at = "left" },
+  { name = "J", kind = "joint", arms = ["west", "mid"] },
+  { name = "P2", kind = "point", arms = ["mid", "up", "down"], at = "left" },
+  { name = "P3", kind = "point", arms = ["east", "up", "down"], at = "left" },
+  { name = "P4", kind = "point", arms = ["east", "plat3", "plat4"], at = "left" },
+  { name = "E3", kind = "buffer", arms = ["plat3"] },
+  { name = "E4", kind = "buffer", arms = ["plat4"] },
+]
+train = [
+  { name = "Tram1", route = ["plat1", "P1", "west", "J", "mid", "P2", "up", "P3", "east", "P4", "plat3"] },
+  { name = "Tram2", route = ["plat2", "P1", "west", "P1", "plat2"] },
+  { name = "Tram3", route = ["plat3", "P4", "east", "P3", "down", "P2", "mid", "J", "west", "P1", "plat1"] },
+  { name = "Tram4", route = ["plat4"] },
+]
+"#;
 
-/// N1 where the joint has the name of a segment.
-const JOINT_A: &str =
-    "format = 1\nsegments = [\"A\", \"B\"]\n\n[[box]]\nname = \"W\"\nkind = \"buffer\"\narms = [\"A\"]\n\n[[box]]\nname = \"A\"\nkind = \"joint\"\narms = [\"A\", \"B\"]\n\n[[box]]\nname = \"E\"\nkind = \"buffer\"\narms = [\"B\"]\n\n[[train]]\nname = \"A\"\nroute = [\"A\", \"A\", \"B\"]\n";
+/// The text of `drive STRAIGHT 200`, worked out by hand.
+const ONE_STEP: &str = r#"relis report 1
+tries 100
+reserve T1 B J1
+reserve T1 B E
+lock T1 J1 A B
+enter T1 J1 A B
+leave T1 A
+unlock T1 J1
+release T1 A J1
+release T1 A W
+train T1 arrived 1 0
+end
+"#;
 
-/// The text of `drive N1 200`, worked out by hand.
-const ONE_STEP: &str =
-    "relis report 1\ntries 100\nreserve T1 B J1\nreserve T1 B E\nlock T1 J1 A B\nenter T1 J1 A B\nleave T1 A\nunlock T1 J1\nrelease T1 A J1\nrelease T1 A W\ntrain T1 arrived 1 0\nend\n";
+/// The text of `tables STRAIGHT`, worked out by hand.
+const ONE_STEP_TABLES: &str = r#"relis tables 1
+box 0 W buffer left
+arm 0 A T1
+box 1 J1 joint left
+arm 0 A T1
+arm 1 B *
+box 2 E buffer left
+arm 0 B *
+train 0 T1 1
+step 0 J1 0 1 E 0 W 0
+end
+"#;
 
-/// The text of `tables N1`, worked out by hand.
-const ONE_STEP_TABLES: &str =
-    "relis tables 1\nbox 0 W buffer left\narm 0 A T1\nbox 1 J1 joint left\narm 0 A T1\narm 1 B *\nbox 2 E buffer left\narm 0 B *\ntrain 0 T1 1\nstep 0 J1 0 1 E 0 W 0\nend\n";
+/// The network text with the first `old` in it replaced.
+fn changed(alloc: Global, net: &str, old: &str, new: &str) -> Result<String, Fail> {
+    let (front, back) = net.split_once(old).ok_or("the text isn't there")?;
+    Ok(format!(in alloc; "{front}{new}{back}")?)
+}
 
 /// A sink that takes the whole text in one put.
 fn wide_sink(alloc: Global) -> Result<MemSink, Fail> {
@@ -67,55 +187,120 @@ fn answer_on(alloc: Global, net: &[u8], words: &[&str]) -> Result<(Status, Vec<u
     Ok((status, Vec::from_slice(alloc, out.bytes())?))
 }
 
+/// Reports worked out by hand: their lines between the head and the end.
 #[test]
 fn drives(rt: HostRuntime) -> Result<(), Fail> {
     let alloc = rt.alloc();
-    for (net, rounds, text) in [
-        (N1, "200", ONE_STEP),
-        (N1, "8", ONE_STEP),
+    for (net, old, new, rounds, lines) in [
         (
-            N1,
+            STRAIGHT,
+            "",
+            "",
             "2",
-            "relis report 1\ntries 100\nreserve T1 B J1\nreserve T1 B E\ntrain T1 underway 0 0\nend\n",
+            "reserve T1 B J1\nreserve T1 B E\ntrain T1 underway 0 0\n",
         ),
+        (STRAIGHT, "", "", "0", "train T1 underway 0 0\n"),
+        ("format = 1\n", "", "", "5", ""),
         (
-            N1,
-            "0",
-            "relis report 1\ntries 100\ntrain T1 underway 0 0\nend\n",
-        ),
-        ("format = 1\n", "5", "relis report 1\ntries 100\nend\n"),
-        (
-            "format = 1\nsegments = [\"A\", \"B\"]\n\n[[box]]\nname = \"W\"\nkind = \"buffer\"\narms = [\"A\"]\n\n[[box]]\nname = \"J1\"\nkind = \"joint\"\narms = [\"A\", \"B\"]\n\n[[box]]\nname = \"E\"\nkind = \"buffer\"\narms = [\"B\"]\n\n[[train]]\nname = \"T1\"\nroute = [\"A\"]\n",
+            STRAIGHT,
+            r#"["A", "J1", "B"]"#,
+            r#"["A"]"#,
             "5",
-            "relis report 1\ntries 100\ntrain T1 arrived 0 0\nend\n",
+            "train T1 arrived 0 0\n",
         ),
         (
-            N5,
+            FORK,
+            "",
+            "",
             "300",
-            "relis report 1\ntries 100\nreserve T1 R P\nreserve T1 R ER\nlock T1 P S R\nthrow P\nsettle P right\nenter T1 P S R\nleave T1 S\nunlock T1 P\nrelease T1 S P\nrelease T1 S W\ntrain T1 arrived 1 0\nend\n",
+            r#"reserve T1 R P
+reserve T1 R ER
+lock T1 P S R
+throw P
+settle P right
+enter T1 P S R
+leave T1 S
+unlock T1 P
+release T1 S P
+release T1 S W
+train T1 arrived 1 0
+"#,
         ),
         (
-            "format = 1\nsegments = [\"S\", \"L\", \"R\"]\n\n[[box]]\nname = \"W\"\nkind = \"buffer\"\narms = [\"S\"]\n\n[[box]]\nname = \"P\"\nkind = \"point\"\narms = [\"S\", \"L\", \"R\"]\nat = \"right\"\n\n[[box]]\nname = \"EL\"\nkind = \"buffer\"\narms = [\"L\"]\n\n[[box]]\nname = \"ER\"\nkind = \"buffer\"\narms = [\"R\"]\n\n[[train]]\nname = \"T1\"\nroute = [\"S\", \"P\", \"R\"]\n",
+            FORK,
+            r#"at = "left""#,
+            r#"at = "right""#,
             "300",
-            "relis report 1\ntries 100\nreserve T1 R P\nreserve T1 R ER\nlock T1 P S R\nenter T1 P S R\nleave T1 S\nunlock T1 P\nrelease T1 S P\nrelease T1 S W\ntrain T1 arrived 1 0\nend\n",
+            r#"reserve T1 R P
+reserve T1 R ER
+lock T1 P S R
+enter T1 P S R
+leave T1 S
+unlock T1 P
+release T1 S P
+release T1 S W
+train T1 arrived 1 0
+"#,
         ),
         (
-            "format = 1\nsegments = [\"A\", \"B\"]\n\n[[box]]\nname = \"W\"\nkind = \"buffer\"\narms = [\"A\"]\n\n[[box]]\nname = \"J1\"\nkind = \"joint\"\narms = [\"A\", \"B\"]\n\n[[box]]\nname = \"E\"\nkind = \"buffer\"\narms = [\"B\"]\n\n[[train]]\nname = \"T1\"\nroute = [\"A\", \"J1\", \"B\", \"J1\", \"A\"]\n",
+            STRAIGHT,
+            r#"["A", "J1", "B"]"#,
+            r#"["A", "J1", "B", "J1", "A"]"#,
             "400",
-            "relis report 1\ntries 100\nreserve T1 B J1\nreserve T1 B E\nlock T1 J1 A B\nenter T1 J1 A B\nleave T1 A\nunlock T1 J1\nrelease T1 A J1\nrelease T1 A W\nreserve T1 A J1\nreserve T1 A W\nlock T1 J1 B A\nenter T1 J1 B A\nleave T1 B\nunlock T1 J1\nrelease T1 B J1\nrelease T1 B E\ntrain T1 arrived 2 0\nend\n",
+            r#"reserve T1 B J1
+reserve T1 B E
+lock T1 J1 A B
+enter T1 J1 A B
+leave T1 A
+unlock T1 J1
+release T1 A J1
+release T1 A W
+reserve T1 A J1
+reserve T1 A W
+lock T1 J1 B A
+enter T1 J1 B A
+leave T1 B
+unlock T1 J1
+release T1 B J1
+release T1 B E
+train T1 arrived 2 0
+"#,
         ),
         (
-            N11,
+            RING,
+            "",
+            "",
             "200",
-            "relis report 1\ntries 100\nreserve T1 B J2\nreserve T1 B J1\nlock T1 J2 A B\nenter T1 J2 A B\nleave T1 A\nunlock T1 J2\nrelease T1 A J2\nrelease T1 A J1\ntrain T1 arrived 1 0\nend\n",
+            r#"reserve T1 B J2
+reserve T1 B J1
+lock T1 J2 A B
+enter T1 J2 A B
+leave T1 A
+unlock T1 J2
+release T1 A J2
+release T1 A J1
+train T1 arrived 1 0
+"#,
         ),
         (
-            N8,
+            CROSSING,
+            "",
+            "",
             "3",
-            "relis report 1\ntries 100\nreserve T1 B X\nreserve T2 D X\nreserve T1 B EB\nreserve T2 D ED\nlock T1 X A B\nbar T2 X T1\ntrain T1 underway 0 0\ntrain T2 underway 0 1\nend\n",
+            r#"reserve T1 B X
+reserve T2 D X
+reserve T1 B EB
+reserve T2 D ED
+lock T1 X A B
+bar T2 X T1
+train T1 underway 0 0
+train T2 underway 0 1
+"#,
         ),
     ] {
-        let (status, written) = answer(alloc, net, &["drive", "NET", rounds])?;
+        let net = changed(alloc, net, old, new)?;
+        let text = format!(in alloc; "relis report 1\ntries 100\n{lines}end\n")?;
+        let (status, written) = answer(alloc, net.as_str(), &["drive", "NET", rounds])?;
         assert_eq!(rt; status, Status::Done, "{rounds} rounds of {net}");
         assert_eq!(rt;
             written.as_slice(),
@@ -123,107 +308,157 @@ fn drives(rt: HostRuntime) -> Result<(), Fail> {
             "{rounds} rounds of {net}"
         );
     }
+    let (status, written) = answer(alloc, STRAIGHT, &["drive", "NET", "8"])?;
+    assert_eq!(rt; status, Status::Done);
+    assert_eq!(rt; written.as_slice(), ONE_STEP.as_bytes());
     Ok(())
 }
 
-/// A train that is in the way for all attempts of another, and two trains head on.
+/// How longer reports begin and end, and how many lines they have: a train that stands in the way for all attempts of
+/// another, two trains head on, and the terminus. The numbers of the last are from a model of the turns in another
+/// language.
 #[test]
-fn drives_until_spent(rt: HostRuntime) -> Result<(), Fail> {
+fn drives_on(rt: HostRuntime) -> Result<(), Fail> {
     let alloc = rt.alloc();
-    let (status, written) = answer(alloc, N4, &["drive", "NET", "100"])?;
-    assert_eq!(rt; status, Status::Done);
-    let mut text = "relis report 1\ntries 100\n".to_string(alloc)?;
-    for _ in 0..100 {
-        text.push_str("refuse T1 B J1 T2\n")?;
+    let occupied = format!(in alloc; "{STRAIGHT}[[train]]\nname = \"T2\"\nroute = [\"B\"]\n")?;
+    for (net, begins, ends, count) in [
+        (
+            occupied.as_str(),
+            "refuse T1 B J1 T2\nrefuse T1 B J1 T2\n",
+            "train T1 spent 0 100\ntrain T2 arrived 0 0\nend\n",
+            105,
+        ),
+        (
+            HEAD_ON,
+            r#"reserve T1 B J1
+reserve T2 B J2
+refuse T1 B J2 T2
+refuse T2 B J1 T1
+release T1 B J1
+release T2 B J2
+"#,
+            "train T1 spent 0 100\ntrain T2 spent 0 100\nend\n",
+            605,
+        ),
+        (
+            TERMINUS,
+            r#"reserve Tram1 west P1
+refuse Tram2 west P1 Tram1
+reserve Tram3 east P4
+reserve Tram1 west J
+"#,
+            r#"train Tram1 arrived 5 0
+train Tram2 arrived 2 15
+train Tram3 arrived 5 4
+train Tram4 arrived 0 0
+end
+"#,
+            132,
+        ),
+    ] {
+        let (status, written) = answer(alloc, net, &["drive", "NET", "300"])?;
+        let begins = format!(in alloc; "relis report 1\ntries 100\n{begins}")?;
+        assert_eq!(rt; status, Status::Done);
+        assert!(rt; written.as_slice().starts_with(begins.as_bytes()), "{net}");
+        assert!(rt; written.as_slice().ends_with(ends.as_bytes()), "{net}");
+        let lines = written.iter().filter(|b| **b == b'\n').count();
+        assert_eq!(rt; lines, count, "{net}");
     }
-    text.push_str("train T1 spent 0 100\ntrain T2 arrived 0 0\nend\n")?;
-    assert_eq!(rt; written.as_slice(), text.as_bytes());
-
-    let (status, written) = answer(alloc, N9, &["drive", "NET", "300"])?;
-    assert_eq!(rt; status, Status::Done);
-    let begins: &[u8] =
-        b"relis report 1\ntries 100\nreserve T1 B J1\nreserve T2 B J2\nrefuse T1 B J2 T2\nrefuse T2 B J1 T1\nrelease T1 B J1\nrelease T2 B J2\n";
-    let ends: &[u8] = b"train T1 spent 0 100\ntrain T2 spent 0 100\nend\n";
-    assert!(rt; written.as_slice().starts_with(begins));
-    assert!(rt; written.as_slice().ends_with(ends));
-    let lines = written.iter().filter(|b| **b == b'\n').count();
-    assert_eq!(rt; lines, 605);
     Ok(())
 }
 
+/// One text for each refusal from 3 to 15, as a change of another.
 #[test]
 fn refuses_texts(rt: HostRuntime) -> Result<(), Fail> {
     let alloc = rt.alloc();
-    for (net, text) in [
+    for (net, old, new, text) in [
+        ("format = 1", "format = 1", "", "3 format"),
+        (STRAIGHT, "format = 1", "format = 2", "3 format"),
+        (STRAIGHT, "format = 1", "format = ", "2 none"),
+        (STRAIGHT, r#"["A", "B"]"#, r#""A""#, "3 segments"),
         (
-            "format = 1\nsegments = [\"S\", \"L\", \"R\"]\n\n[[box]]\nname = \"W\"\nkind = \"buffer\"\narms = [\"S\"]\n\n[[box]]\nname = \"P\"\nkind = \"point\"\narms = [\"S\", \"L\", \"R\"]\nat = \"left\"\n\n[[box]]\nname = \"EL\"\nkind = \"buffer\"\narms = [\"L\"]\n\n[[box]]\nname = \"ER\"\nkind = \"buffer\"\narms = [\"R\"]\n\n[[train]]\nname = \"T1\"\nroute = [\"L\", \"P\", \"R\"]\n",
-            "refused 14 train[0].route[1]\n",
+            STRAIGHT,
+            r#"kind = "joint""#,
+            "kind = \"joint\"\nlength = 3",
+            "3 box[1]",
         ),
         (
-            "format = 1\nsegments = [\"A\", \"B\"]\n\n[[box]]\nname = \"W\"\nkind = \"buffer\"\narms = [\"A\"]\n\n[[box]]\nname = \"J1\"\nkind = \"joint\"\narms = [\"A\", \"B\"]\n\n[[box]]\nname = \"E\"\nkind = \"buffer\"\narms = [\"B\"]\n\n[[train]]\nname = \"T1\"\nroute = [\"A\", \"J1\", \"B\"]\n\n[[train]]\nname = \"T2\"\nroute = [\"A\"]\n",
-            "refused 15 train[1].route[0]\n",
+            STRAIGHT,
+            r#"["A", "B"]"#,
+            r#"["A B", "B"]"#,
+            "4 segments[0]",
+        ),
+        (STRAIGHT, r#"name = "J1""#, r#"name = "W""#, "6 box[1].name"),
+        (
+            STRAIGHT,
+            r#"kind = "joint""#,
+            r#"kind = "point""#,
+            "7 box[1].arms",
         ),
         (
-            "format = 1\nsegments = [\"A\", \"B\"]\n\n[[box]]\nname = \"W\"\nkind = \"buffer\"\narms = [\"A\"]\n\n[[box]]\nname = \"J1\"\nkind = \"joint\"\narms = [\"A\", \"B\"]\n\n[[train]]\nname = \"T1\"\nroute = [\"A\", \"J1\", \"B\"]\n",
-            "refused 10 segments[1]\n",
+            STRAIGHT,
+            r#"arms = ["A", "B"]"#,
+            r#"arms = ["A", "C"]"#,
+            "8 box[1].arms[1]",
         ),
         (
-            "format = 1\nsegments = [\"A\", \"B\"]\n\n[[box]]\nname = \"W\"\nkind = \"buffer\"\narms = [\"A\"]\n\n[[box]]\nname = \"J1\"\nkind = \"joint\"\narms = [\"A\", \"B\"]\n\n[[box]]\nname = \"E\"\nkind = \"buffer\"\narms = [\"B\"]\n\n[[box]]\nname = \"F\"\nkind = \"buffer\"\narms = [\"B\"]\n\n[[train]]\nname = \"T1\"\nroute = [\"A\", \"J1\", \"B\"]\n",
-            "refused 10 segments[1]\n",
+            STRAIGHT,
+            r#"arms = ["A", "B"]"#,
+            r#"arms = ["A", "A"]"#,
+            "9 box[1].arms[1]",
         ),
         (
-            "format = 1\nsegments = [\"A\", \"B\"]\n\n[[box]]\nname = \"W\"\nkind = \"buffer\"\narms = [\"A\"]\n\n[[box]]\nname = \"J1\"\nkind = \"joint\"\narms = [\"A\", \"A\"]\n\n[[box]]\nname = \"E\"\nkind = \"buffer\"\narms = [\"B\"]\n\n[[train]]\nname = \"T1\"\nroute = [\"A\", \"J1\", \"B\"]\n",
-            "refused 9 box[1].arms[1]\n",
-        ),
-        ("", "refused 3 format\n"),
-        (
-            "format = 2\nsegments = [\"A\", \"B\"]\n\n[[box]]\nname = \"W\"\nkind = \"buffer\"\narms = [\"A\"]\n\n[[box]]\nname = \"J1\"\nkind = \"joint\"\narms = [\"A\", \"B\"]\n\n[[box]]\nname = \"E\"\nkind = \"buffer\"\narms = [\"B\"]\n\n[[train]]\nname = \"T1\"\nroute = [\"A\", \"J1\", \"B\"]\n",
-            "refused 3 format\n",
-        ),
-        ("format = ", "refused 2 none\n"),
-        (
-            "format = 1\nsegments = [\"A B\", \"B\"]\n\n[[box]]\nname = \"W\"\nkind = \"buffer\"\narms = [\"A\"]\n\n[[box]]\nname = \"J1\"\nkind = \"joint\"\narms = [\"A\", \"B\"]\n\n[[box]]\nname = \"E\"\nkind = \"buffer\"\narms = [\"B\"]\n\n[[train]]\nname = \"T1\"\nroute = [\"A\", \"J1\", \"B\"]\n",
-            "refused 4 segments[0]\n",
+            STRAIGHT,
+            "[[box]]\nname = \"E\"\nkind = \"buffer\"\narms = [\"B\"]\n",
+            "",
+            "10 segments[1]",
         ),
         (
-            "format = 1\nsegments = [\"A\", \"B\"]\n\n[[box]]\nname = \"W\"\nkind = \"buffer\"\narms = [\"A\"]\n\n[[box]]\nname = \"W\"\nkind = \"joint\"\narms = [\"A\", \"B\"]\n\n[[box]]\nname = \"E\"\nkind = \"buffer\"\narms = [\"B\"]\n\n[[train]]\nname = \"T1\"\nroute = [\"A\", \"W\", \"B\"]\n",
-            "refused 6 box[1].name\n",
+            STRAIGHT,
+            "[[train]]",
+            "[[box]]\nname = \"F\"\nkind = \"buffer\"\narms = [\"B\"]\n[[train]]",
+            "10 segments[1]",
         ),
         (
-            "format = 1\nsegments = [\"A\", \"B\"]\n\n[[box]]\nname = \"W\"\nkind = \"buffer\"\narms = [\"A\"]\n\n[[box]]\nname = \"J1\"\nkind = \"point\"\narms = [\"A\", \"B\"]\n\n[[box]]\nname = \"E\"\nkind = \"buffer\"\narms = [\"B\"]\n\n[[train]]\nname = \"T1\"\nroute = [\"A\", \"J1\", \"B\"]\n",
-            "refused 7 box[1].arms\n",
+            STRAIGHT,
+            r#"kind = "joint""#,
+            "kind = \"joint\"\nat = \"left\"",
+            "11 box[1].at",
+        ),
+        (FORK, r#"at = "left""#, "", "11 box[1].at"),
+        (
+            STRAIGHT,
+            r#"["A", "J1", "B"]"#,
+            r#"["A", "J1"]"#,
+            "12 train[0].route",
         ),
         (
-            "format = 1\nsegments = [\"A\", \"B\"]\n\n[[box]]\nname = \"W\"\nkind = \"buffer\"\narms = [\"A\"]\n\n[[box]]\nname = \"J1\"\nkind = \"joint\"\narms = [\"A\", \"C\"]\n\n[[box]]\nname = \"E\"\nkind = \"buffer\"\narms = [\"B\"]\n\n[[train]]\nname = \"T1\"\nroute = [\"A\", \"J1\", \"B\"]\n",
-            "refused 8 box[1].arms[1]\n",
+            STRAIGHT,
+            r#"["A", "J1", "B"]"#,
+            r#"["A", "J2", "B"]"#,
+            "13 train[0].route[1]",
         ),
         (
-            "format = 1\nsegments = [\"A\", \"B\"]\n\n[[box]]\nname = \"W\"\nkind = \"buffer\"\narms = [\"A\"]\n\n[[box]]\nname = \"J1\"\nkind = \"joint\"\nat = \"left\"\narms = [\"A\", \"B\"]\n\n[[box]]\nname = \"E\"\nkind = \"buffer\"\narms = [\"B\"]\n\n[[train]]\nname = \"T1\"\nroute = [\"A\", \"J1\", \"B\"]\n",
-            "refused 11 box[1].at\n",
+            FORK,
+            r#"["S", "P", "R"]"#,
+            r#"["L", "P", "R"]"#,
+            "14 train[0].route[1]",
         ),
         (
-            "format = 1\nsegments = [\"A\", \"B\"]\n\n[[box]]\nname = \"W\"\nkind = \"buffer\"\narms = [\"A\"]\n\n[[box]]\nname = \"J1\"\nkind = \"joint\"\narms = [\"A\", \"B\"]\n\n[[box]]\nname = \"E\"\nkind = \"buffer\"\narms = [\"B\"]\n\n[[train]]\nname = \"T1\"\nroute = [\"A\", \"J1\"]\n",
-            "refused 12 train[0].route\n",
-        ),
-        (
-            "format = 1\nsegments = [\"A\", \"B\"]\n\n[[box]]\nname = \"W\"\nkind = \"buffer\"\narms = [\"A\"]\n\n[[box]]\nname = \"J1\"\nkind = \"joint\"\narms = [\"A\", \"B\"]\n\n[[box]]\nname = \"E\"\nkind = \"buffer\"\narms = [\"B\"]\n\n[[train]]\nname = \"T1\"\nroute = [\"A\", \"B\", \"B\"]\n",
-            "refused 13 train[0].route[1]\n",
-        ),
-        (
-            "format = 1\nsegments = [\"A\", \"B\"]\n\n[[box]]\nname = \"W\"\nkind = \"buffer\"\narms = [\"A\"]\n\n[[box]]\nname = \"J1\"\nkind = \"joint\"\nlength = 3\narms = [\"A\", \"B\"]\n\n[[box]]\nname = \"E\"\nkind = \"buffer\"\narms = [\"B\"]\n\n[[train]]\nname = \"T1\"\nroute = [\"A\", \"J1\", \"B\"]\n",
-            "refused 3 box[1]\n",
-        ),
-        (
-            "format = 1\nsegments = \"A\"\n\n[[box]]\nname = \"W\"\nkind = \"buffer\"\narms = [\"A\"]\n\n[[box]]\nname = \"J1\"\nkind = \"joint\"\narms = [\"A\", \"B\"]\n\n[[box]]\nname = \"E\"\nkind = \"buffer\"\narms = [\"B\"]\n\n[[train]]\nname = \"T1\"\nroute = [\"A\", \"J1\", \"B\"]\n",
-            "refused 3 segments\n",
+            STRAIGHT,
+            "[[train]]",
+            "[[train]]\nname = \"T0\"\nroute = [\"A\"]\n[[train]]",
+            "15 train[1].route[0]",
         ),
     ] {
+        let net = changed(alloc, net, old, new)?;
+        let text = format!(in alloc; "refused {text}\n")?;
         for words in [
             ["check", "NET"].as_slice(),
             &["tables", "NET"],
             &["drive", "NET", "5"],
         ] {
-            let (status, written) = answer(alloc, net, words)?;
+            let (status, written) = answer(alloc, net.as_str(), words)?;
             assert_eq!(rt; status.number(), 3, "{net}");
             assert_eq!(rt; written.as_slice(), text.as_bytes(), "{net}");
         }
@@ -234,21 +469,21 @@ fn refuses_texts(rt: HostRuntime) -> Result<(), Fail> {
 #[test]
 fn accepts_texts(rt: HostRuntime) -> Result<(), Fail> {
     let alloc = rt.alloc();
-    for (net, text) in [
-        (N1, "accepted segments 2 boxes 3 trains 1 nodes 8\n"),
-        (
-            "format = 1\n",
-            "accepted segments 0 boxes 0 trains 0 nodes 0\n",
-        ),
+    let one_name = changed(alloc, STRAIGHT, r#"name = "E""#, r#"name = "A""#)?;
+    for (net, counts) in [
+        (STRAIGHT, "segments 2 boxes 3 trains 1 nodes 8"),
+        (one_name.as_str(), "segments 2 boxes 3 trains 1 nodes 8"),
+        ("format = 1\n", "segments 0 boxes 0 trains 0 nodes 0"),
         (
             "format = 1\nsegments = []\nbox = []\ntrain = []\n",
-            "accepted segments 0 boxes 0 trains 0 nodes 0\n",
+            "segments 0 boxes 0 trains 0 nodes 0",
         ),
-        (TRACK, "accepted segments 2 boxes 3 trains 0 nodes 6\n"),
-        (JOINT_A, "accepted segments 2 boxes 3 trains 1 nodes 8\n"),
-        (N5, "accepted segments 3 boxes 4 trains 1 nodes 10\n"),
-        (N8, "accepted segments 4 boxes 5 trains 2 nodes 14\n"),
+        (TRACK, "segments 2 boxes 3 trains 0 nodes 6"),
+        (FORK, "segments 3 boxes 4 trains 1 nodes 10"),
+        (CROSSING, "segments 4 boxes 5 trains 2 nodes 14"),
+        (TERMINUS, "segments 9 boxes 9 trains 4 nodes 26"),
     ] {
+        let text = format!(in alloc; "accepted {counts}\n")?;
         let (status, written) = answer(alloc, net, &["check", "NET"])?;
         assert_eq!(rt; status, Status::Done, "{net}");
         assert_eq!(rt; written.as_slice(), text.as_bytes(), "{net}");
@@ -256,7 +491,7 @@ fn accepts_texts(rt: HostRuntime) -> Result<(), Fail> {
     Ok(())
 }
 
-/// N1 with one train, which goes to and fro so many steps.
+/// The track with one train, which goes to and fro so many steps.
 fn to_and_fro(alloc: Global, steps: u32) -> Result<String, Fail> {
     let mut text = TRACK.to_string(alloc)?;
     text.push_str("\n[[train]]\nname = \"T\"\nroute = [\"A\"")?;
@@ -271,7 +506,7 @@ fn to_and_fro(alloc: Global, steps: u32) -> Result<String, Fail> {
     Ok(text)
 }
 
-/// N1 with so many trains, all on one segment.
+/// The track with so many trains, all on one segment.
 fn crowded(alloc: Global, trains: u32) -> Result<String, Fail> {
     let mut text = TRACK.to_string(alloc)?;
     for t in 0..trains {
@@ -304,7 +539,7 @@ fn counts_steps_and_trains(rt: HostRuntime) -> Result<(), Fail> {
 fn prints_tables(rt: HostRuntime) -> Result<(), Fail> {
     let alloc = rt.alloc();
     for (net, text) in [
-        (N1, ONE_STEP_TABLES),
+        (STRAIGHT, ONE_STEP_TABLES),
         ("format = 1\n", "relis tables 1\nend\n"),
     ] {
         let (status, written) = answer(alloc, net, &["tables", "NET"])?;
@@ -342,7 +577,11 @@ fn bears_hostile_texts(rt: HostRuntime) -> Result<(), Fail> {
             b"accepted segments 0 boxes 0 trains 0 nodes 0\n",
         ),
         (
-            b"format = 1\nbox = [{ name = \"W\", kind = \"buffer\", arms = [\"A\"] }, { arms = [\"A\"], kind = 'buffer', name = \"\"\"E\"\"\" }]\nsegments = [\n  \"A\",\n]",
+            br#"format = 1
+box = [{ name = "W", kind = "buffer", arms = ["A"] }, { arms = ["A"], kind = 'buffer', name = """E""" }]
+segments = [
+  "A",
+]"#,
             b"accepted segments 1 boxes 2 trains 0 nodes 4\n",
         ),
     ];
@@ -423,7 +662,7 @@ fn refuses_other_types(rt: HostRuntime) -> Result<(), Fail> {
 #[test]
 fn reads_long_texts(rt: HostRuntime) -> Result<(), Fail> {
     let alloc = rt.alloc();
-    let mut text = N1.to_string(alloc)?;
+    let mut text = STRAIGHT.to_string(alloc)?;
     for _ in 0..65_536 {
         if text.len() < 65_536 {
             text.push_str("#")?;
@@ -459,7 +698,7 @@ fn refuses_words(rt: HostRuntime) -> Result<(), Fail> {
         &["tables", "NET", "5"],
         &["run", "NET"],
     ] {
-        let (status, written) = answer(alloc, N1, words)?;
+        let (status, written) = answer(alloc, STRAIGHT, words)?;
         assert_eq!(rt; status, Status::Usage);
         assert_eq!(rt;
             written.as_slice(),
@@ -473,20 +712,20 @@ fn refuses_words(rt: HostRuntime) -> Result<(), Fail> {
 #[test]
 fn says_what_failed(rt: HostRuntime) -> Result<(), Fail> {
     let alloc = rt.alloc();
-    for words in [["drive", "N1", "200"].as_slice(), &["check", "N1"]] {
+    for words in [["drive", "NET", "200"].as_slice(), &["check", "NET"]] {
         let args = args_of(alloc, words)?;
         let mut files = MemFiles::new(alloc, &[0])?;
-        files.add("N1", N1.as_bytes())?;
+        files.add("NET", STRAIGHT.as_bytes())?;
         let mut out = wide_sink(alloc)?;
         let status = relis_plain(alloc, &args, &mut files, &mut out);
         assert_eq!(rt; status, Status::ReadFault);
         assert_eq!(rt; out.bytes(), b"read fault\n".as_slice());
-        assert_eq!(rt; files.failed("N1"), 1);
+        assert_eq!(rt; files.failed("NET"), 1);
     }
 
-    let args = args_of(alloc, &["drive", "N1", "200"])?;
+    let args = args_of(alloc, &["drive", "NET", "200"])?;
     let mut files = MemFiles::new(alloc, &[])?;
-    files.add("N1", N1.as_bytes())?;
+    files.add("NET", STRAIGHT.as_bytes())?;
     let mut out = MemSink::new(alloc, 100_000, 16, &[1])?;
     let status = relis(&rt, alloc, &args, &mut files, &mut out, &OpenGate);
     assert_eq!(rt; status, Status::WriteFault);

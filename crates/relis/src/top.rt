@@ -1,7 +1,4 @@
-ghost use Rattle.std.specs.Prelude.{◌≡◌, ℕ, ◌≤◌, ◌⊎◌, List, Some};
-ghost use Rattle.rl_outside.specs.Causes.{Rose, RoseOrFull};
-ghost use Rattle.relis.specs.Meaning.{IsWritten, IsNamed, NamedRose, expected};
-ghost use Rattle.relis.specs.declared.status.Status.{Status};
+ghost use Rattle.relis.specs.Calls.{IsCall, outside};
 
 use crate::decide::decide;
 use crate::status::Status;
@@ -19,21 +16,10 @@ pub fn relis_plain<F: Files, K: Sink>(
     files: &mut F,
     out: &mut K,
 ) -> Status
-    // What was written is the text of the answer, and says what the answer means.
-    ensures written { IsWritten words.now (F.held files.old) (K.written out.old) (K.written out.new) result }
-
-    // A fault is answered only where something failed in this call: a fetch of the file that the words name, or a put.
-    ensures read_fault { result ≡ Status.ReadFault → NamedRose words.now (F.faults files.old) (F.faults files.new) }
-    ensures write_fault { result ≡ Status.WriteFault → RoseOrFull (K.faults out.old) (K.faults out.new) }
-
-    // Where nothing fails and the files tell the network, the answer is the one that the words and its text have.
-    ensures complete { (answer : Status) → expected words.now (F.held files.old) ≡ Some answer → ¬ NamedRose words.now (F.faults files.old) (F.faults files.new) → ¬ RoseOrFull (K.faults out.old) (K.faults out.new) → (result ≡ answer) ⊎ (result ≡ Status.NoMemory) }
-
-    // The files stay, only the file that the words name is fetched, and no count falls.
-    ensures files_stay { (n : List ℕ) → F.held files.new n ≡ F.held files.old n }
-    ensures files_later { (n : List ℕ) → F.faults files.old n ≤ F.faults files.new n }
-    ensures others { (n : List ℕ) → ¬ IsNamed words.now n → F.faults files.new n ≡ F.faults files.old n }
-    ensures sink_later { K.faults out.old ≤ K.faults out.new }
+    ensures { IsCall words.now
+        (outside (F.held files.old) (F.faults files.old) (K.written out.old) (K.faults out.old))
+        (outside (F.held files.new) (F.faults files.new) (K.written out.new) (K.faults out.new))
+        result }
 {
     match decide(alloc, words, files) {
         Ok(decision) => match put_all(out, decision.text.bytes()) {
@@ -54,21 +40,10 @@ pub fn relis<R: Threads + Wait + Sync, F: Files, K: Sink, G: Gate>(
     out: &mut K,
     gate: &G,
 ) -> Status
-    // What was written is the text of the answer, and says what the answer means.
-    ensures written { IsWritten words.now (F.held files.old) (K.written out.old) (K.written out.new) result }
-
-    // A fault is answered only where something failed in this call: a fetch of the file that the words name, or a put.
-    ensures read_fault { result ≡ Status.ReadFault → NamedRose words.now (F.faults files.old) (F.faults files.new) }
-    ensures write_fault { result ≡ Status.WriteFault → RoseOrFull (K.faults out.old) (K.faults out.new) }
-
-    // Where nothing fails and the files tell the network, the answer is the one that the words and its text have.
-    ensures complete { (answer : Status) → expected words.now (F.held files.old) ≡ Some answer → ¬ NamedRose words.now (F.faults files.old) (F.faults files.new) → ¬ RoseOrFull (K.faults out.old) (K.faults out.new) → (result ≡ answer) ⊎ (result ≡ Status.NoMemory) }
-
-    // The files stay, only the file that the words name is fetched, and no count falls.
-    ensures files_stay { (n : List ℕ) → F.held files.new n ≡ F.held files.old n }
-    ensures files_later { (n : List ℕ) → F.faults files.old n ≤ F.faults files.new n }
-    ensures others { (n : List ℕ) → ¬ IsNamed words.now n → F.faults files.new n ≡ F.faults files.old n }
-    ensures sink_later { K.faults out.old ≤ K.faults out.new }
+    ensures { IsCall words.now
+        (outside (F.held files.old) (F.faults files.old) (K.written out.old) (K.faults out.old))
+        (outside (F.held files.new) (F.faults files.new) (K.written out.new) (K.faults out.new))
+        result }
 {
     let _ = rt;
     let _ = gate;

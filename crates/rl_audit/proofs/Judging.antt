@@ -11,7 +11,7 @@ use Rattle.rl_model.specs.World.{World, start}
 use Rattle.rl_model.specs.Moves.{guards, AllHold, FirstFails, after, guard, done}
 use Rattle.rl_model.specs.Safety.{Guarded, GuardedFrom, IsSafeRun}
 use Rattle.rl_model.specs.Reports.{FateFits, IsRightOutcome, outcome_guards, made_in, refused_in}
-use Rattle.rl_domain.specs.Tables.{world_of, Fits}
+use Rattle.rl_domain.specs.Rows.{world_of, Fits}
 use Rattle.rl_audit.specs.declared.counts.Count.{Count}
 use Rattle.rl_audit.specs.declared.judge.Judge.{Judge}
 use Rattle.rl_audit.specs.declared.judge.Failure.{Failure}

@@ -8,7 +8,7 @@ use Rattle.rl_model.specs.Moves.{Guards, AllHold, FirstFails, guard, done}
 use Rattle.rl_model.specs.Safety.{Guarded, world_after}
 use Rattle.rl_model.specs.Reports.{FateFits, IsRightOutcome}
 use Rattle.rl_text.specs.Lines.{Reading}
-use Rattle.rl_domain.specs.Tables.{Tables, world_of, Fits}
+use Rattle.rl_domain.specs.Rows.{Rows, world_of, Fits}
 use Rattle.rl_report.specs.Grammar.{most_moves}
 use Rattle.rl_report.specs.Reading.{HasMoves, HasRead}
 use Rattle.rl_audit.specs.declared.counts.Count.{Count}
@@ -20,9 +20,9 @@ use Rattle.rl_audit.specs.Counting.{AreCounts}
 use Rattle.rl_audit.specs.Verdicts.{IsFirstBadMove, IsFirstBadOutcome}
 
 -- no guard of these moves fails, and the world and the counts are theirs
-pub record IsGood (net : NetworkPlan) (moves : List Move) (tables : Tables) (counts : List Count) : Type 0 where
+pub record IsGood (net : NetworkPlan) (moves : List Move) (rows : Rows) (counts : List Count) : Type 0 where
   pub guarded : Guarded net moves
-  pub world : world_of net tables ≡ world_after net moves
+  pub world : world_of net rows ≡ world_after net moves
   pub counted : AreCounts moves counts
 
 -- these moves were read

@@ -1,7 +1,7 @@
 ghost use Rattle.std.specs.Prelude.{◌≡◌, ◌≤◌, [], ℕ, List, length, OnOk, IfOk, IfErr};
 ghost use Rattle.rl_model.specs.declared.moves.Move.{Move};
 ghost use Rattle.rl_model.specs.declared.report.Report.{Report};
-ghost use Rattle.rl_domain.specs.Tables.{Fits};
+ghost use Rattle.rl_domain.specs.Rows.{Fits};
 ghost use Rattle.rl_report.specs.Answers.{IsFault, TooMany};
 ghost use Rattle.rl_report.specs.Grammar.{IsTextOf, most_moves};
 ghost use Rattle.rl_report.specs.Reading.{HasNoMove, HasRead};

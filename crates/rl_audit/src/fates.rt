@@ -1,7 +1,7 @@
 ghost use Rattle.std.specs.Prelude.{◌≡◌, ◌+◌, ◌↔◌, IsTrue};
-ghost use Rattle.rl_model.specs.Moves.{IsTrainOf};
+ghost use Rattle.rl_model.specs.Network.{IsTrainOf};
 ghost use Rattle.rl_model.specs.Reports.{FateFits};
-ghost use Rattle.rl_domain.specs.Tables.{world_of, Fits};
+ghost use Rattle.rl_domain.specs.Rows.{world_of, Fits};
 
 use rl_base::TrainId;
 use rl_domain::World;

@@ -1,8 +1,9 @@
 ghost use Rattle.std.specs.Prelude.{◌≡◌, ◌+◌, ◌<◌, ◌≤◌, [], ◌∷◌, ◌++◌, ℕ, List, length, IfOk};
 ghost use Rattle.rl_model.specs.declared.moves.Move.{Move};
 ghost use Rattle.rl_model.specs.declared.report.Report.{Report};
-ghost use Rattle.rl_model.specs.Moves.{IsMoveOf, IsTrainOf};
-ghost use Rattle.rl_domain.specs.Tables.{Fits};
+ghost use Rattle.rl_model.specs.Moves.{IsMoveOf};
+ghost use Rattle.rl_model.specs.Network.{IsTrainOf};
+ghost use Rattle.rl_domain.specs.Rows.{Fits};
 ghost use Rattle.rl_report.specs.Grammar.{most_moves};
 ghost use Rattle.rl_audit.specs.Judging.{HasJudged, HasJudgedTrains, OutcomeTested, VerdictIs};
 

@@ -1,2 +1,3 @@
 mod LayoutLemmas
 pub mod Lists
+pub mod PlaceOrder

@@ -1,3 +1,4 @@
+-- A draft whose names are names.
 use Rattle.std.specs.Prelude.{IsTrue}
 use Rattle.std.specs.List.{list_all}
 use Rattle.rl_base.specs.Name.{is_name}

@@ -1,5 +1,7 @@
+-- The bytes that are a name.
 use Rattle.std.specs.Prelude.{ℕ, ◌==◌, nat_le, Bool, ◌&&◌, ◌||◌, List, length}
 use Rattle.std.specs.List.{list_all}
+use Rattle.rl_base.specs.declared.limits.TheConstants.{MAX_NAME}
 
 -- one of A to Z, a to z, 0 to 9, _ and -
 abbrev pub is_name_byte : ℕ → Bool
@@ -8,4 +10,4 @@ is_name_byte b =
 
 -- 1 to 16 of those bytes
 abbrev pub is_name : List ℕ → Bool
-is_name text = nat_le 1 (length text) && nat_le (length text) 16 && list_all is_name_byte text
+is_name text = nat_le 1 (length text) && nat_le (length text) MAX_NAME && list_all is_name_byte text

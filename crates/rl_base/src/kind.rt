@@ -1,5 +1,5 @@
 ghost use Rattle.std.specs.Prelude.{◌≡◌, ℕ};
-ghost use Rattle.rl_base.specs.Kind.{arms_of, are_arms, arms_join, joining_side};
+ghost use Rattle.rl_base.specs.Kind.{arms_of, are_arms, arms_join, joining_side, kind_word, side_word};
 
 use crate::ids::Arm;
 
@@ -67,5 +67,27 @@ pub fn side_of(kind: Kind, x: Arm, y: Arm) -> Option<Side>
         Some(Side::Right)
     } else {
         None
+    }
+}
+
+/// The word for the kind, in a network text and in what is printed.
+pub fn kind_word<'a>(kind: Kind) -> &'a [u8]
+    ensures { result.now ≡ kind_word kind }
+{
+    match kind {
+        Kind::Buffer => b"buffer",
+        Kind::Joint => b"joint",
+        Kind::Point => b"point",
+        Kind::Crossing => b"crossing",
+    }
+}
+
+/// The word for the side, in a network text and in what is printed.
+pub fn side_word<'a>(side: Side) -> &'a [u8]
+    ensures { result.now ≡ side_word side }
+{
+    match side {
+        Side::Left => b"left",
+        Side::Right => b"right",
     }
 }

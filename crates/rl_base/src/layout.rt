@@ -5,6 +5,7 @@ ghost use Rattle.rl_base.specs.declared.layout.WordKind.{WordKind};
 ghost use Rattle.rl_base.specs.Layout.{word_count, word_number, HasWord, node_count, node_number, HasNode};
 
 use crate::ids::{BoxId, NodeNo, TrainId, WordNo};
+use crate::limits::{MAX_BOXES, MAX_TRAINS};
 
 /// How many boxes and trains a network has, from which the numbers of nodes and words follow. At most
 /// 128 boxes and 32 trains.
@@ -40,8 +41,8 @@ pub enum WordKind {
 impl Layout {
     /// How many words are shared: the still word, two for each box and three for each train.
     pub fn words(&self) -> u32
-        requires boxes { self.now.boxes ≤ 128 }
-        requires trains { self.now.trains ≤ 32 }
+        requires boxes { self.now.boxes ≤ MAX_BOXES }
+        requires trains { self.now.trains ≤ MAX_TRAINS }
         ensures { result ≡ 1 + 2 * self.now.boxes + 3 * self.now.trains }
     {
         1 + 2 * self.boxes + 3 * self.trains
@@ -49,8 +50,8 @@ impl Layout {
 
     /// How many nodes there are: a box and a point machine for each box, a train and a track for each train.
     pub fn nodes(&self) -> u32
-        requires boxes { self.now.boxes ≤ 128 }
-        requires trains { self.now.trains ≤ 32 }
+        requires boxes { self.now.boxes ≤ MAX_BOXES }
+        requires trains { self.now.trains ≤ MAX_TRAINS }
         ensures { result ≡ 2 * self.now.boxes + 2 * self.now.trains }
     {
         2 * self.boxes + 2 * self.trains
@@ -58,8 +59,8 @@ impl Layout {
 
     /// The number of a word.
     pub fn word(&self, kind: WordKind) -> WordNo
-        requires boxes { self.now.boxes ≤ 128 }
-        requires trains { self.now.trains ≤ 32 }
+        requires boxes { self.now.boxes ≤ MAX_BOXES }
+        requires trains { self.now.trains ≤ MAX_TRAINS }
         requires there { HasWord self.now kind }
         ensures number { result.0 ≡ word_number self.now kind }
         ensures within { result.0 < word_count self.now }
@@ -76,8 +77,8 @@ impl Layout {
 
     /// The word of the number.
     pub fn word_kind(&self, w: WordNo) -> WordKind
-        requires boxes { self.now.boxes ≤ 128 }
-        requires trains { self.now.trains ≤ 32 }
+        requires boxes { self.now.boxes ≤ MAX_BOXES }
+        requires trains { self.now.trains ≤ MAX_TRAINS }
         requires within { w.0 < word_count self.now }
         ensures there { HasWord self.now result }
         ensures number { word_number self.now result ≡ w.0 }
@@ -98,7 +99,7 @@ impl Layout {
 
     /// The word at a place among those of the trains.
     fn train_word(&self, place: u32) -> WordKind
-        requires trains { self.now.trains ≤ 32 }
+        requires trains { self.now.trains ≤ MAX_TRAINS }
         requires within { place < 3 * self.now.trains }
         ensures there { HasWord self.now result }
         ensures number { word_number self.now result ≡ 1 + 2 * self.now.boxes + place }
@@ -114,8 +115,8 @@ impl Layout {
 
     /// The number of a node.
     pub fn node(&self, kind: NodeKind) -> NodeNo
-        requires boxes { self.now.boxes ≤ 128 }
-        requires trains { self.now.trains ≤ 32 }
+        requires boxes { self.now.boxes ≤ MAX_BOXES }
+        requires trains { self.now.trains ≤ MAX_TRAINS }
         requires there { HasNode self.now kind }
         ensures number { result.0 ≡ node_number self.now kind }
         ensures within { result.0 < node_count self.now }
@@ -130,8 +131,8 @@ impl Layout {
 
     /// The node of the number.
     pub fn node_kind(&self, n: NodeNo) -> NodeKind
-        requires boxes { self.now.boxes ≤ 128 }
-        requires trains { self.now.trains ≤ 32 }
+        requires boxes { self.now.boxes ≤ MAX_BOXES }
+        requires trains { self.now.trains ≤ MAX_TRAINS }
         requires within { n.0 < node_count self.now }
         ensures there { HasNode self.now result }
         ensures number { node_number self.now result ≡ n.0 }
@@ -148,7 +149,7 @@ impl Layout {
 
     /// The node at a place among those of the boxes.
     fn box_node(&self, place: u32) -> NodeKind
-        requires boxes { self.now.boxes ≤ 128 }
+        requires boxes { self.now.boxes ≤ MAX_BOXES }
         requires within { place < 2 * self.now.boxes }
         ensures there { HasNode self.now result }
         ensures number { node_number self.now result ≡ 2 * self.now.trains + place }

@@ -2,6 +2,7 @@ ghost use Rattle.std.specs.Prelude.{◌≡◌, ℕ, List, IfOk};
 ghost use Rattle.std.specs.List.{list_all};
 ghost use Rattle.rl_base.specs.Name.{is_name, is_name_byte};
 
+use crate::limits::MAX_NAME;
 use crate::memory::NoMemory;
 use crate::sequence::Sequence;
 use std::alloc::Global;
@@ -56,5 +57,5 @@ fn are_bytes_of_name(text: &[u8]) -> bool
 pub fn name_ok(text: &[u8]) -> bool
     ensures { result ≡ is_name text.now }
 {
-    1 <= text.len() && text.len() <= 16 && are_bytes_of_name(text)
+    1 <= text.len() && text.len() <= MAX_NAME && are_bytes_of_name(text)
 }

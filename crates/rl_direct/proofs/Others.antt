@@ -8,7 +8,8 @@ use Rattle.rl_model.specs.declared.moves.Move.{Move}
 use Rattle.rl_model.specs.declared.moves.Move.TheVariants as moves
 use Rattle.rl_model.specs.declared.network.NetworkPlan.{NetworkPlan}
 use Rattle.rl_model.specs.World.{World}
-use Rattle.rl_model.specs.Moves.{after, reserve, release, lock, unlock, enter, leave}
+use Rattle.rl_model.specs.Moves.{after}
+use Rattle.rl_direct.proofs.Changes.{reserve, release, lock, unlock, enter, leave}
 use Rattle.rl_model.specs.Safety.{IsKept}
 use Rattle.rl_model.specs.Reports.{is_leave, is_refusal}
 use Rattle.rl_direct.specs.declared.mind.TrainMind.{TrainMind}

@@ -7,9 +7,8 @@ use Rattle.rl_model.specs.declared.moves.Points.{Points}
 use Rattle.rl_model.specs.declared.moves.Points.TheVariants as points
 use Rattle.rl_model.specs.declared.moves.Move.TheVariants as moves
 use Rattle.rl_model.specs.declared.network.NetworkPlan.{NetworkPlan}
-use Rattle.rl_model.specs.Network.{connects}
+use Rattle.rl_model.specs.Network.{connects, IsTrainOf}
 use Rattle.rl_model.specs.World.{World, points_at, points_connect}
-use Rattle.rl_model.specs.Moves.{IsTrainOf}
 use Rattle.rl_direct.specs.declared.mind.TrainMind.{TrainMind}
 use Rattle.rl_direct.specs.declared.mind.Job.TheVariants.{Pass}
 use Rattle.rl_direct.specs.declared.step.Step.{Step}

@@ -2,7 +2,7 @@
 use Rattle.std.proofs.Common.{◌≡◌, ℕ, ◌≢◌, ◌==◌, ◌||◌, Bool, true, false, arith}
 use Rattle.std.proofs.lemmas.Bool.Decides.{nat_tests}
 use Rattle.rl_model.specs.World.{World}
-use Rattle.rl_model.specs.Moves.{reserve, release, lock, unlock, enter, leave}
+use Rattle.rl_direct.proofs.Changes.{reserve, release, lock, unlock, enter, leave}
 use Rattle.rl_direct.specs.declared.mind.Job.TheVariants.{Near, Far, Lock, Pass, Unlock, FreeNear, FreeFar, DropFar, DropNear}
 use Rattle.rl_direct.specs.Agreement.{Pictures}
 

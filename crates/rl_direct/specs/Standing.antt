@@ -3,7 +3,7 @@ use Rattle.std.specs.Prelude.{◌≡◌, ℕ, true, Some, List, length, slice_ge
 use Rattle.rl_model.specs.declared.moves.Move.{Move}
 use Rattle.rl_model.specs.declared.network.NetworkPlan.{NetworkPlan}
 use Rattle.rl_model.specs.Moves.{IsMoveOf}
-use Rattle.rl_domain.specs.Tables.{world_of, Fits}
+use Rattle.rl_domain.specs.Rows.{world_of, Fits}
 use Rattle.rl_direct.specs.declared.driving.Driving.{Driving}
 use Rattle.rl_direct.specs.Direct.{Driven, rests, outcome_of}
 use Rattle.rl_model.specs.declared.report.Outcome.{Outcome}

@@ -1,6 +1,6 @@
 ghost use Rattle.std.specs.Prelude.{◌≡◌, ◌+◌, ◌<◌, ◌≤◌, ℕ, true, length, slice_get, replicate, Some, IfOk, OnOk, IsTrue, ◌↔◌};
-ghost use Rattle.rl_model.specs.Moves.{IsTrainOf};
-ghost use Rattle.rl_domain.specs.Tables.{world_of, Fits};
+ghost use Rattle.rl_model.specs.Network.{IsTrainOf};
+ghost use Rattle.rl_domain.specs.Rows.{world_of, Fits};
 ghost use Rattle.rl_direct.specs.Direct.{rests, start_mind};
 ghost use Rattle.rl_direct.specs.declared.mind.TrainMind.{TrainMind};
 

@@ -1,5 +1,5 @@
 ghost use Rattle.std.specs.Prelude.{◌≡◌, ◌≤◌, ◌+◌, IfOk, OnOk, length, slice_get, Some, ℕ};
-ghost use Rattle.rl_model.specs.Moves.{IsTrainOf};
+ghost use Rattle.rl_model.specs.Network.{IsTrainOf};
 ghost use Rattle.rl_direct.specs.Direct.{fate_of, outcome_of, IsDirectReport};
 ghost use Rattle.rl_direct.specs.Agreement.{passed_in};
 ghost use Rattle.rl_direct.specs.declared.mind.TrainMind.{TrainMind};

@@ -1,6 +1,5 @@
 ghost use Rattle.std.specs.Prelude.{◌≡◌, ◌<◌};
-ghost use Rattle.rl_model.specs.Moves.{IsTrainOf, IsSegmentOf, IsBoxOf};
-ghost use Rattle.rl_model.specs.Network.{steps_of};
+ghost use Rattle.rl_model.specs.Network.{IsTrainOf, IsSegmentOf, IsBoxOf, steps_of};
 ghost use Rattle.rl_direct.specs.Direct.{from_of, through_of, to_of, other_end};
 ghost use Rattle.rl_direct.specs.Passage.{IsPassage};
 

@@ -1,6 +1,7 @@
 ghost use Rattle.std.specs.Prelude.{◌≡◌, ◌+◌, ◌<◌, ◌≤◌, false, true};
-ghost use Rattle.rl_model.specs.Moves.{IsTrainOf, IsMoveOf};
-ghost use Rattle.rl_domain.specs.Tables.{world_of, Fits};
+ghost use Rattle.rl_model.specs.Network.{IsTrainOf};
+ghost use Rattle.rl_model.specs.Moves.{IsMoveOf};
+ghost use Rattle.rl_domain.specs.Rows.{world_of, Fits};
 ghost use Rattle.rl_direct.specs.Direct.{TurnOf};
 ghost use Rattle.rl_direct.specs.Passage.{IsPassage};
 ghost use Rattle.rl_direct.specs.Turns.{IsTurnAt, IsAtSide, IsSettling};

@@ -10,7 +10,7 @@ use Rattle.rl_base.specs.declared.ids.BoxId.{BoxId}
 use Rattle.rl_base.specs.declared.ids.Arm.{Arm}
 use Rattle.rl_model.specs.declared.network.Segment.{Segment}
 use Rattle.rl_model.specs.declared.network.NetworkPlan.{NetworkPlan}
-use Rattle.rl_domain.specs.declared.tables.BoxState.{BoxState}
+use Rattle.rl_domain.specs.declared.states.BoxState.{BoxState}
 use Rattle.rl_domain.specs.States.{holder_at}
 use Rattle.rl_model.specs.Network.{IsNetwork, arm_at, arm_of, segment_at, kind_of}
 

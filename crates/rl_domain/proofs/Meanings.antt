@@ -1,15 +1,15 @@
--- What the look-ups in the tables mean for the world: each test holds exactly where its sentence does.
+-- What the look-ups in the rows mean for the world: each test holds exactly where its sentence does.
 use Rattle.std.proofs.Common.{◌≡◌, ℕ, ◌==◌, ◌↔◌, Bool, true, false, not, ◌&&◌, Option, Some, None, is_some, is_none, IsTrue, refl, sym, ◌∙◌, inl, inr}
 use Rattle.std.specs.Option.{option_map_or}
 use Rattle.std.proofs.lemmas.Bool.{eq-eqb, eqb-true, and_from, and_parts, and_left, false_from_ne_true, false≢true, true≢false}
 use Rattle.std.proofs.lemmas.Option.{slice_get_cases}
 use Rattle.rl_base.specs.declared.ids.TrainId.{TrainId}
 use Rattle.rl_model.specs.declared.network.NetworkPlan.{NetworkPlan}
-use Rattle.rl_domain.specs.declared.tables.PathLock.{PathLock}
-use Rattle.rl_domain.specs.declared.tables.Passage.{Passage}
-use Rattle.rl_domain.specs.declared.tables.Standing.{Standing}
+use Rattle.rl_domain.specs.declared.states.PathLock.{PathLock}
+use Rattle.rl_domain.specs.declared.states.Passage.{Passage}
+use Rattle.rl_domain.specs.declared.states.Standing.{Standing}
 use Rattle.rl_domain.specs.States.{is_train, is_lock, is_lock_of, is_across, comes_from, stands_across}
-use Rattle.rl_domain.specs.Tables.{Tables, Fits, IsLock, lock_of}
+use Rattle.rl_domain.specs.Rows.{Rows, Fits, IsLock, lock_of}
 
 -- a lock is its own
 own_lock : (l : PathLock) → is_lock l.t.0 l.s.0 l.s2.0 (Some l) ≡ true
@@ -102,10 +102,10 @@ off_all_iff x = passage_none_iff x.on.0 x.across
 pub from_iff : (s : ℕ) (x : Standing) → (comes_from s x ≡ true) ↔ ((b : ℕ) × (to : ℕ) × IsTrue (stands_across b s to x))
 from_iff s x = passage_from_iff s x.on.0 x.across
 
--- a lock in the tables is in range
-pub lock_in_range : (net : NetworkPlan) (tables : Tables) (b : ℕ) (l : PathLock) → Fits net tables → lock_of tables b ≡ Some l → IsLock net l
-lock_in_range net tables b l fits is =
-    elim (slice_get_cases tables.boxes b).1 [
+-- a lock in the rows is in range
+pub lock_in_range : (net : NetworkPlan) (rows : Rows) (b : ℕ) (l : PathLock) → Fits net rows → lock_of rows b ≡ Some l → IsLock net l
+lock_in_range net rows b l fits is =
+    elim (slice_get_cases rows.boxes b).1 [
       | inl here ↦ (fits.states b here.0 here.2).lock l (rw here.2 at is)
       | inr out ↦ let none = rw out.1 at is in absurd (cc)
     ]

@@ -6,10 +6,10 @@ use Rattle.std.proofs.lemmas.Bool.{eq-eqb, eqb-true, and_from, and_parts, or_cas
 use Rattle.std.proofs.lemmas.Option.{same_Some}
 use Rattle.rl_model.specs.declared.network.NetworkPlan.{NetworkPlan}
 use Rattle.rl_model.specs.Safety.{Collided, on_a_segment, across_a_box}
-use Rattle.rl_domain.specs.declared.tables.Passage.{Passage}
-use Rattle.rl_domain.specs.declared.tables.Standing.{Standing}
+use Rattle.rl_domain.specs.declared.states.Passage.{Passage}
+use Rattle.rl_domain.specs.declared.states.Standing.{Standing}
 use Rattle.rl_domain.specs.States.{stands_on, stands_across, is_across, is_on_one_segment, is_across_one_box, meets, any_meet}
-use Rattle.rl_domain.specs.Tables.{Tables, world_of}
+use Rattle.rl_domain.specs.Rows.{Rows, world_of}
 
 -- two trains that stand so are on one segment or across one box
 data Meet (x y : Standing) : Type 0 where
@@ -134,23 +134,23 @@ from_some (z ∷ xs) (suc i) zero x y apart is too meet =
 from_some (z ∷ xs) (suc i) (suc j) x y apart is too meet =
     or_right _ _ (from_some xs i j x y (λ same. apart (ap suc same)) is too meet)
 
-collided_from : (net : NetworkPlan) (tables : Tables) (i j : ℕ) (x y : Standing) → i ≢ j → slice_get tables.trains i ≡ Some x → slice_get tables.trains j ≡ Some y → Meet x y → Collided (world_of net tables)
-collided_from net tables i j x y apart is too (on_one s on on2) = on_a_segment i j s apart (rw is on) (rw too on2)
-collided_from net tables i j x y apart is too (at_one b from to from2 to2 at at2) =
+collided_from : (net : NetworkPlan) (rows : Rows) (i j : ℕ) (x y : Standing) → i ≢ j → slice_get rows.trains i ≡ Some x → slice_get rows.trains j ≡ Some y → Meet x y → Collided (world_of net rows)
+collided_from net rows i j x y apart is too (on_one s on on2) = on_a_segment i j s apart (rw is on) (rw too on2)
+collided_from net rows i j x y apart is too (at_one b from to from2 to2 at at2) =
     across_a_box i j b from to from2 to2 apart (rw is at) (rw too at2)
 
-meet_from_collided : (net : NetworkPlan) (tables : Tables) → Collided (world_of net tables) → any_meet tables.trains ≡ true
-meet_from_collided net tables (on_a_segment t u s apart is too) =
-    let x = there (stands_on s) (slice_get tables.trains t) is in
-    let y = there (stands_on s) (slice_get tables.trains u) too in
-    from_some tables.trains t u x.0 y.0 apart x.1 y.1 (on_one s x.2 y.2)
-meet_from_collided net tables (across_a_box t u b from to from2 to2 apart is too) =
-    let x = there (stands_across b from to) (slice_get tables.trains t) is in
-    let y = there (stands_across b from2 to2) (slice_get tables.trains u) too in
-    from_some tables.trains t u x.0 y.0 apart x.1 y.1 (at_one b from to from2 to2 x.2 y.2)
+meet_from_collided : (net : NetworkPlan) (rows : Rows) → Collided (world_of net rows) → any_meet rows.trains ≡ true
+meet_from_collided net rows (on_a_segment t u s apart is too) =
+    let x = there (stands_on s) (slice_get rows.trains t) is in
+    let y = there (stands_on s) (slice_get rows.trains u) too in
+    from_some rows.trains t u x.0 y.0 apart x.1 y.1 (on_one s x.2 y.2)
+meet_from_collided net rows (across_a_box t u b from to from2 to2 apart is too) =
+    let x = there (stands_across b from to) (slice_get rows.trains t) is in
+    let y = there (stands_across b from2 to2) (slice_get rows.trains u) too in
+    from_some rows.trains t u x.0 y.0 apart x.1 y.1 (at_one b from to from2 to2 x.2 y.2)
 
-pub collided_iff : (net : NetworkPlan) (tables : Tables) → (any_meet tables.trains ≡ true) ↔ Collided (world_of net tables)
-collided_iff net tables = (
-  λ is. let m = some_meet tables.trains is in collided_from net tables m.i m.j m.x m.y m.apart m.is m.too m.meet,
-  meet_from_collided net tables,
+pub collided_iff : (net : NetworkPlan) (rows : Rows) → (any_meet rows.trains ≡ true) ↔ Collided (world_of net rows)
+collided_iff net rows = (
+  λ is. let m = some_meet rows.trains is in collided_from net rows m.i m.j m.x m.y m.apart m.is m.too m.meet,
+  meet_from_collided net rows,
 )

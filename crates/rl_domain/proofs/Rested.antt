@@ -7,10 +7,10 @@ use Rattle.rl_model.specs.declared.network.NetworkPlan.{NetworkPlan}
 use Rattle.rl_model.specs.Network.{IsNetwork, arm_of, has_end, kind_of, segment_at}
 use Rattle.rl_model.specs.Safety.{Derailed, at_a_box}
 use Rattle.rl_model.specs.Reports.{Rests}
-use Rattle.rl_domain.specs.declared.tables.BoxState.{BoxState}
-use Rattle.rl_domain.specs.declared.tables.Standing.{Standing}
+use Rattle.rl_domain.specs.declared.states.BoxState.{BoxState}
+use Rattle.rl_domain.specs.declared.states.Standing.{Standing}
 use Rattle.rl_domain.specs.States.{is_train, is_lock_of, holder_at, stands_across}
-use Rattle.rl_domain.specs.Tables.{Tables, world_of, holder_of, Fits}
+use Rattle.rl_domain.specs.Rows.{Rows, world_of, holder_of, Fits}
 use Rattle.rl_domain.specs.Rests.{IsOffRails, is_at_arm, KeepsArms, KeepsOnly}
 use Rattle.rl_domain.proofs.Arms.{IsAtArm-from_arm, arms_few, option_cases}
 use Rattle.rl_domain.proofs.Meanings.{lock_of_iff, off_all_iff, no_passage}
@@ -18,13 +18,13 @@ use Rattle.rl_domain.proofs.Meetings.{there}
 use Rattle.rl_domain.proofs.Moved.{and_true}
 use Rattle.rl_domain.proofs.Travels.{tail_is}
 
-pub derailed_from : (net : NetworkPlan) (tables : Tables) (t : ℕ) → IsOffRails net tables t → Derailed net (world_of net tables)
-derailed_from net tables t off = at_a_box t off.box off.from off.to off.across off.apart
+pub derailed_from : (net : NetworkPlan) (rows : Rows) (t : ℕ) → IsOffRails net rows t → Derailed net (world_of net rows)
+derailed_from net rows t off = at_a_box t off.box off.from off.to off.across off.apart
 
-pub nobody_derailed : (net : NetworkPlan) (tables : Tables) (n : ℕ) → length tables.trains ≤ n → ((t : ℕ) → t < n → IsOffRails net tables t → ⊥) → Derailed net (world_of net tables) → ⊥
-nobody_derailed net tables n few nobody (at_a_box t b from to across apart) =
-    let x = there (stands_across b from to) (slice_get tables.trains t) across in
-    let within = slice_get_within tables.trains t x.0 x.1 in
+pub nobody_derailed : (net : NetworkPlan) (rows : Rows) (n : ℕ) → length rows.trains ≤ n → ((t : ℕ) → t < n → IsOffRails net rows t → ⊥) → Derailed net (world_of net rows) → ⊥
+nobody_derailed net rows n few nobody (at_a_box t b from to across apart) =
+    let x = there (stands_across b from to) (slice_get rows.trains t) across in
+    let within = slice_get_within rows.trains t x.0 x.1 in
     nobody t (omega arith) (record { box = b; from = from; to = to; across = across; apart = apart })
 
 -- an arm without a segment is none of the box's
@@ -48,8 +48,8 @@ segment_has_arm net s b i network within some =
       | inr out ↦ absurd (omega (arith, out.0))
     ]
 
-keeps_holds : (net : NetworkPlan) (tables : Tables) (t s b y : ℕ) (state : BoxState) → IsNetwork net → slice_get tables.boxes b ≡ Some state → KeepsArms net state t s b → is_train t (holder_of net tables y b) ≡ (y == s && has_end net y b)
-keeps_holds net tables t s b y state network is arms =
+keeps_holds : (net : NetworkPlan) (rows : Rows) (t s b y : ℕ) (state : BoxState) → IsNetwork net → slice_get rows.boxes b ≡ Some state → KeepsArms net state t s b → is_train t (holder_of net rows y b) ≡ (y == s && has_end net y b)
+keeps_holds net rows t s b y state network is arms =
     elim (option_cases (arm_of net y b)) [
       | inl none ↦ rw none (sym (and_right (y == s) false refl))
       | inr some ↦
@@ -60,8 +60,8 @@ keeps_holds net tables t s b y state network is arms =
           rw (some.1, is) (arm ∙ and_true (y == s))
     ]
 
-holds_keep : (net : NetworkPlan) (tables : Tables) (t s b i : ℕ) (state : BoxState) → IsNetwork net → Fits net tables → b < length net.boxes → slice_get tables.boxes b ≡ Some state → KeepsOnly net tables t s b → is_train t (holder_at state i) ≡ is_at_arm net s b i
-holds_keep net tables t s b i state network fits within is keeps =
+holds_keep : (net : NetworkPlan) (rows : Rows) (t s b i : ℕ) (state : BoxState) → IsNetwork net → Fits net rows → b < length net.boxes → slice_get rows.boxes b ≡ Some state → KeepsOnly net rows t s b → is_train t (holder_at state i) ≡ is_at_arm net s b i
+holds_keep net rows t s b i state network fits within is keeps =
     elim (option_cases (segment_at net b i)) [
       | inl none ↦
           let free = (fits.states b state is).free i (past_arms net b i network within none) in
@@ -72,11 +72,11 @@ holds_keep net tables t s b i state network fits within is keeps =
           rw some.1 (holder ∙ sym (and_true (some.0 == s)))
     ]
 
-pub keeps_iff : (net : NetworkPlan) (tables : Tables) (t s b : ℕ) (state : BoxState) → IsNetwork net → Fits net tables → b < length net.boxes → slice_get tables.boxes b ≡ Some state → ((is_lock_of t state.lock ≡ false) × KeepsArms net state t s b) ↔ KeepsOnly net tables t s b
-keeps_iff net tables t s b state network fits within is = (
+pub keeps_iff : (net : NetworkPlan) (rows : Rows) (t s b : ℕ) (state : BoxState) → IsNetwork net → Fits net rows → b < length net.boxes → slice_get rows.boxes b ≡ Some state → ((is_lock_of t state.lock ≡ false) × KeepsArms net state t s b) ↔ KeepsOnly net rows t s b
+keeps_iff net rows t s b state network fits within is = (
   λ both.
       record {
-        holds = λ y. keeps_holds net tables t s b y state network is both.1;
+        holds = λ y. keeps_holds net rows t s b y state network is both.1;
         unlocked = λ from to. rw is (false_from_ne_true _ (λ locked. true≢false (sym ((lock_of_iff t state.lock).1 (from, to, locked)) ∙ both.0)));
       },
   λ keeps. (
@@ -84,13 +84,13 @@ keeps_iff net tables t s b state network fits within is = (
         let some = (lock_of_iff t state.lock).0 locked in
         let free = rw is at (keeps.unlocked some.0 some.1) in
         true≢false (sym some.2 ∙ free)),
-    λ i few. holds_keep net tables t s b i state network fits within is keeps,
+    λ i few. holds_keep net rows t s b i state network fits within is keeps,
   ),
 )
 
 -- at a box that isn't there a train keeps nothing
-keeps_past : (net : NetworkPlan) (tables : Tables) (t s b : ℕ) → IsNetwork net → Fits net tables → length net.boxes ≤ b → KeepsOnly net tables t s b
-keeps_past net tables t s b network fits past =
+keeps_past : (net : NetworkPlan) (rows : Rows) (t s b : ℕ) → IsNetwork net → Fits net rows → length net.boxes ≤ b → KeepsOnly net rows t s b
+keeps_past net rows t s b network fits past =
     record {
       holds = λ y.
           elim (option_cases (arm_of net y b)) [
@@ -98,35 +98,35 @@ keeps_past net tables t s b network fits past =
             | inr some ↦ let within = (IsAtArm-from_arm net y b some.0 network some.1).box in absurd (omega arith)
           ];
       unlocked = λ from to.
-          elim (slice_get_cases tables.boxes b).1 [
+          elim (slice_get_cases rows.boxes b).1 [
             | inl here ↦ absurd (omega (arith, here.1, fits.boxes))
             | inr out ↦ rw out.1 refl
           ];
     }
 
-keeps_each : (net : NetworkPlan) (tables : Tables) (t s n b : ℕ) → IsNetwork net → Fits net tables → length net.boxes ≤ n → ((b : ℕ) → b < n → KeepsOnly net tables t s b) → KeepsOnly net tables t s b
-keeps_each net tables t s n b network fits few each =
+keeps_each : (net : NetworkPlan) (rows : Rows) (t s n b : ℕ) → IsNetwork net → Fits net rows → length net.boxes ≤ n → ((b : ℕ) → b < n → KeepsOnly net rows t s b) → KeepsOnly net rows t s b
+keeps_each net rows t s n b network fits few each =
     elim (cases_lt b n) [
       | inl within ↦ each b within
-      | inr past ↦ keeps_past net tables t s b network fits (omega arith)
+      | inr past ↦ keeps_past net rows t s b network fits (omega arith)
     ]
 
-pub rests_from : (net : NetworkPlan) (tables : Tables) (t n : ℕ) (x : Standing) → IsNetwork net → Fits net tables → slice_get tables.trains t ≡ Some x → is_none x.across ≡ true → length net.boxes ≤ n → ((b : ℕ) → b < n → KeepsOnly net tables t x.on.0 b) → Rests net (world_of net tables) t
-rests_from net tables t n x network fits is off few each =
+pub rests_from : (net : NetworkPlan) (rows : Rows) (t n : ℕ) (x : Standing) → IsNetwork net → Fits net rows → slice_get rows.trains t ≡ Some x → is_none x.across ≡ true → length net.boxes ≤ n → ((b : ℕ) → b < n → KeepsOnly net rows t x.on.0 b) → Rests net (world_of net rows) t
+rests_from net rows t n x network fits is off few each =
     record {
       off = λ b from to. rw is ((off_all_iff x).0 off b from to);
       segment = x.on.0;
       stands = rw is (or_left _ _ (eq-eqb x.on.0 x.on.0 refl));
-      holds = λ s b. (keeps_each net tables t x.on.0 n b network fits few each).holds s;
-      unlocked = λ b from to. (keeps_each net tables t x.on.0 n b network fits few each).unlocked from to;
+      holds = λ s b. (keeps_each net rows t x.on.0 n b network fits few each).holds s;
+      unlocked = λ b from to. (keeps_each net rows t x.on.0 n b network fits few each).unlocked from to;
     }
 
-pub rests_off : (net : NetworkPlan) (tables : Tables) (t : ℕ) (x : Standing) → slice_get tables.trains t ≡ Some x → Rests net (world_of net tables) t → x.across ≡ None
-rests_off net tables t x is rests = no_passage x (rw is at rests.off)
+pub rests_off : (net : NetworkPlan) (rows : Rows) (t : ℕ) (x : Standing) → slice_get rows.trains t ≡ Some x → Rests net (world_of net rows) t → x.across ≡ None
+rests_off net rows t x is rests = no_passage x (rw is at rests.off)
 
-pub rests_keeps : (net : NetworkPlan) (tables : Tables) (t b : ℕ) (x : Standing) → slice_get tables.trains t ≡ Some x → Rests net (world_of net tables) t → KeepsOnly net tables t x.on.0 b
-rests_keeps net tables t b x is rests =
-    let own = tail_is rests.segment x (rests_off net tables t x is rests) (rw is at rests.stands) in
+pub rests_keeps : (net : NetworkPlan) (rows : Rows) (t b : ℕ) (x : Standing) → slice_get rows.trains t ≡ Some x → Rests net (world_of net rows) t → KeepsOnly net rows t x.on.0 b
+rests_keeps net rows t b x is rests =
+    let own = tail_is rests.segment x (rests_off net rows t x is rests) (rw is at rests.stands) in
     rw (← own)
     (record {
       holds = λ y. rests.holds y b;

@@ -1,6 +1,6 @@
 pub mod States
-pub mod Tables
-pub mod Starts
+pub mod Rows
+pub mod FirstStates
 pub mod Applies
 pub mod Changes
 pub mod Rests

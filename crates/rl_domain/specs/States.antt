@@ -3,10 +3,10 @@ use Rattle.std.specs.Prelude.{ℕ, ◌==◌, Bool, false, ◌&&◌, ◌||◌, Op
 use Rattle.std.specs.List.{list_any}
 use Rattle.std.specs.Option.{option_map_or}
 use Rattle.rl_base.specs.declared.ids.TrainId.{TrainId}
-use Rattle.rl_domain.specs.declared.tables.PathLock.{PathLock}
-use Rattle.rl_domain.specs.declared.tables.BoxState.{BoxState}
-use Rattle.rl_domain.specs.declared.tables.Passage.{Passage}
-use Rattle.rl_domain.specs.declared.tables.Standing.{Standing}
+use Rattle.rl_domain.specs.declared.states.PathLock.{PathLock}
+use Rattle.rl_domain.specs.declared.states.BoxState.{BoxState}
+use Rattle.rl_domain.specs.declared.states.Passage.{Passage}
+use Rattle.rl_domain.specs.declared.states.Standing.{Standing}
 
 -- the train is train t
 abbrev pub is_train : ℕ → Option TrainId → Bool

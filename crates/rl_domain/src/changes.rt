@@ -1,15 +1,15 @@
 ghost use Rattle.std.specs.Prelude.{◌≡◌, ◌<◌, length, IsTrue, Some};
 ghost use Rattle.rl_base.specs.declared.ids.TrainId.{TrainId};
-ghost use Rattle.rl_domain.specs.declared.tables.PathLock.{PathLock};
+ghost use Rattle.rl_domain.specs.declared.states.PathLock.{PathLock};
 ghost use Rattle.rl_model.specs.declared.network.NetworkPlan.{NetworkPlan};
-ghost use Rattle.rl_model.specs.Network.{IsNetwork, has_end};
+ghost use Rattle.rl_model.specs.Network.{IsNetwork, has_end, IsTrainOf, IsSegmentOf, IsBoxOf};
 ghost use Rattle.rl_model.specs.Moves.{guards, after, AllHold};
-ghost use Rattle.rl_domain.specs.Tables.{world_of, made_of, Fits, IsLock};
+ghost use Rattle.rl_domain.specs.Rows.{world_of, made_of, Fits, IsLock};
 ghost use Rattle.rl_domain.specs.Changes.{ChangesHolder, ChangesLock, ChangesPoints, ChangesStanding, enters, leaves};
-ghost use Rattle.rl_model.specs.Moves.{IsTrainOf, IsSegmentOf, IsBoxOf, IsMoveOf};
+ghost use Rattle.rl_model.specs.Moves.{IsMoveOf};
 
-use crate::starts::points_of;
-use crate::tables::{Passage, PathLock, Standing};
+use crate::first_states::points_of;
+use crate::states::{Passage, PathLock, Standing};
 use crate::world::World;
 use rl_base::{BoxId, SegId, TrainId};
 use rl_model::{Move, Points};
@@ -20,8 +20,7 @@ impl World {
     fn set_holder(&mut self, net: &Network, s: SegId, b: BoxId, holder: Option<TrainId>)
         requires network { IsNetwork net.now }
         requires fits { Fits net.now self.old }
-        requires segment { IsSegmentOf net.now s }
-        requires at { IsBoxOf net.now b }
+        requires there { IsSegmentOf net.now s × IsBoxOf net.now b }
         requires end { IsTrue (has_end net.now s.0 b.0) }
         requires train { (u : TrainId) → holder ≡ Some u → IsTrainOf net.now u }
         ensures changed { ChangesHolder net.now self.old self.new s.0 b.0 holder }

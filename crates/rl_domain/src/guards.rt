@@ -1,10 +1,12 @@
 ghost use Rattle.std.specs.Prelude.{◌≡◌, ◌↔◌, IsTrue, IsOk, IfErr, MatchResult};
-ghost use Rattle.rl_model.specs.Moves.{guards, reserve_guards, release_guards, lock_guards, unlock_guards, throw_guards, settle_guards, enter_guards, leave_guards, refuse_guards, bar_guards};
-ghost use Rattle.rl_domain.specs.Tables.{world_of, Fits};
-ghost use Rattle.rl_model.specs.Moves.{IsTrainOf, IsSegmentOf, IsBoxOf, IsMoveOf};
+ghost use Rattle.rl_base.specs.declared.ids.TrainId.{TrainId};
+ghost use Rattle.rl_model.specs.declared.moves.Move.TheVariants as move;
+ghost use Rattle.rl_model.specs.Moves.{guards, IsMoveOf};
+ghost use Rattle.rl_model.specs.Network.{IsTrainOf, IsSegmentOf, IsBoxOf};
+ghost use Rattle.rl_domain.specs.Rows.{world_of, Fits};
 ghost use Rattle.rl_domain.specs.Applies.{Tests};
 
-use crate::facts::{can_connect, has_end, points_connect};
+use crate::conditions::{can_connect, has_end, points_connect};
 use crate::world::{Guard, World};
 use rl_base::{BoxId, SegId, Side, TrainId};
 use rl_model::{Move, Points};
@@ -21,9 +23,8 @@ fn guard(number: u32, holds: bool) -> Result<(), Guard>
 impl World {
     fn test_reserve(&self, net: &Network, s: SegId, b: BoxId) -> Result<(), Guard>
         requires fits { Fits net.now self.now }
-        requires segment { IsSegmentOf net.now s }
-        requires at { IsBoxOf net.now b }
-        ensures { Tests (reserve_guards net.now (world_of net.now self.now) s.0 b.0) result }
+        requires there { IsSegmentOf net.now s × IsBoxOf net.now b }
+        ensures { (t : TrainId) → Tests (guards net.now (world_of net.now self.now) (move.Reserve t s b)) result }
     {
         guard(1, has_end(net, s, b))?;
         guard(2, self.is_free(net, s, b))
@@ -31,10 +32,8 @@ impl World {
 
     fn test_release(&self, net: &Network, t: TrainId, s: SegId, b: BoxId) -> Result<(), Guard>
         requires fits { Fits net.now self.now }
-        requires train { IsTrainOf net.now t }
-        requires segment { IsSegmentOf net.now s }
-        requires at { IsBoxOf net.now b }
-        ensures { Tests (release_guards net.now (world_of net.now self.now) t.0 s.0 b.0) result }
+        requires there { IsTrainOf net.now t × IsSegmentOf net.now s × IsBoxOf net.now b }
+        ensures { Tests (guards net.now (world_of net.now self.now) (move.Release t s b)) result }
     {
         guard(3, has_end(net, s, b))?;
         guard(4, self.holds(net, t, s, b))?;
@@ -50,10 +49,8 @@ impl World {
         s2: SegId,
     ) -> Result<(), Guard>
         requires fits { Fits net.now self.now }
-        requires at { IsBoxOf net.now b }
-        requires from { IsSegmentOf net.now s }
-        requires to { IsSegmentOf net.now s2 }
-        ensures { Tests (lock_guards net.now (world_of net.now self.now) t.0 b.0 s.0 s2.0) result }
+        requires there { IsBoxOf net.now b × IsSegmentOf net.now s × IsSegmentOf net.now s2 }
+        ensures { Tests (guards net.now (world_of net.now self.now) (move.Lock t b s s2)) result }
     {
         guard(6, s != s2 && has_end(net, s, b) && has_end(net, s2, b))?;
         guard(7, self.is_unlocked(b))?;
@@ -63,9 +60,8 @@ impl World {
 
     fn test_unlock(&self, net: &Network, t: TrainId, b: BoxId) -> Result<(), Guard>
         requires fits { Fits net.now self.now }
-        requires train { IsTrainOf net.now t }
-        requires at { IsBoxOf net.now b }
-        ensures { Tests (unlock_guards (world_of net.now self.now) t.0 b.0) result }
+        requires there { IsTrainOf net.now t × IsBoxOf net.now b }
+        ensures { Tests (guards net.now (world_of net.now self.now) (move.Unlock t b)) result }
     {
         guard(10, self.has_lock_of(b, t))?;
         guard(11, self.is_off(t, b))
@@ -73,8 +69,8 @@ impl World {
 
     fn test_throw(&self, net: &Network, b: BoxId) -> Result<(), Guard>
         requires fits { Fits net.now self.now }
-        requires at { IsBoxOf net.now b }
-        ensures { Tests (throw_guards net.now (world_of net.now self.now) b.0) result }
+        requires there { IsBoxOf net.now b }
+        ensures { Tests (guards net.now (world_of net.now self.now) (move.Throw b)) result }
     {
         guard(12, self.has_lock(b) && self.points(b) != Points::Moving)?;
         guard(13, self.points_bar_lock(net, b))
@@ -82,8 +78,8 @@ impl World {
 
     fn test_settle(&self, net: &Network, b: BoxId, side: Side) -> Result<(), Guard>
         requires fits { Fits net.now self.now }
-        requires at { IsBoxOf net.now b }
-        ensures { Tests (settle_guards net.now (world_of net.now self.now) b.0 side) result }
+        requires there { IsBoxOf net.now b }
+        ensures { Tests (guards net.now (world_of net.now self.now) (move.Settle b side)) result }
     {
         guard(14, self.has_lock(b) && self.points(b) == Points::Moving)?;
         guard(15, self.side_fits_lock(net, b, side))
@@ -98,11 +94,8 @@ impl World {
         s2: SegId,
     ) -> Result<(), Guard>
         requires fits { Fits net.now self.now }
-        requires train { IsTrainOf net.now t }
-        requires at { IsBoxOf net.now b }
-        requires from { IsSegmentOf net.now s }
-        requires to { IsSegmentOf net.now s2 }
-        ensures { Tests (enter_guards net.now (world_of net.now self.now) t.0 b.0 s.0 s2.0) result }
+        requires there { IsTrainOf net.now t × IsBoxOf net.now b × IsSegmentOf net.now s × IsSegmentOf net.now s2 }
+        ensures { Tests (guards net.now (world_of net.now self.now) (move.Enter t b s s2)) result }
     {
         guard(16, self.is_next_step(net, t, b, s, s2))?;
         guard(17, self.occupies(t, s) && self.is_off_all(t))?;
@@ -113,8 +106,8 @@ impl World {
 
     fn test_leave(&self, net: &Network, t: TrainId, s: SegId) -> Result<(), Guard>
         requires fits { Fits net.now self.now }
-        requires train { IsTrainOf net.now t }
-        ensures { Tests (leave_guards (world_of net.now self.now) t.0 s.0) result }
+        requires there { IsTrainOf net.now t }
+        ensures { Tests (guards net.now (world_of net.now self.now) (move.Leave t s)) result }
     {
         guard(21, self.comes_from(t, s))
     }
@@ -128,9 +121,8 @@ impl World {
         u: TrainId,
     ) -> Result<(), Guard>
         requires fits { Fits net.now self.now }
-        requires segment { IsSegmentOf net.now s }
-        requires at { IsBoxOf net.now b }
-        ensures { Tests (refuse_guards net.now (world_of net.now self.now) t.0 s.0 b.0 u.0) result }
+        requires there { IsSegmentOf net.now s × IsBoxOf net.now b }
+        ensures { Tests (guards net.now (world_of net.now self.now) (move.Refuse t s b u)) result }
     {
         guard(22, has_end(net, s, b))?;
         guard(23, u != t && self.holds(net, u, s, b))
@@ -138,8 +130,8 @@ impl World {
 
     fn test_bar(&self, net: &Network, t: TrainId, b: BoxId, u: TrainId) -> Result<(), Guard>
         requires fits { Fits net.now self.now }
-        requires at { IsBoxOf net.now b }
-        ensures { Tests (bar_guards (world_of net.now self.now) t.0 b.0 u.0) result }
+        requires there { IsBoxOf net.now b }
+        ensures { Tests (guards net.now (world_of net.now self.now) (move.Bar t b u)) result }
     {
         guard(24, u != t && self.has_lock_of(b, u))
     }

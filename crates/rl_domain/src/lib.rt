@@ -1,5 +1,5 @@
-//! The world as code: who stands where, who holds what and how the points stand, in tables, and the ten
-//! moves with their guards.
+//! The world as code: who stands where, who holds what and how the points stand, a row for each train and box, and
+//! the ten moves with their guards.
 //!
 //! It gives upward a `World` that tests a move as the definitions do and changes as they say, and that
 //! answers whether trains have met or left the rails. It takes moves as they come, and may not know who
@@ -7,15 +7,15 @@
 #![tactic(auto)]
 
 mod changes;
-mod facts;
+mod conditions;
+mod first_states;
 mod guards;
-mod queries;
+mod reservations;
 mod rests;
 mod safety;
-mod starts;
-mod tables;
+mod states;
 mod world;
 
 pub use rl_model::{Move, Moves, Points};
-pub use tables::{BoxState, PathLock};
+pub use states::{BoxState, PathLock};
 pub use world::{Guard, World};

@@ -3,12 +3,12 @@ ghost use Rattle.std.specs.List.{list_any};
 ghost use Rattle.rl_model.specs.declared.network.NetworkPlan.{NetworkPlan};
 ghost use Rattle.rl_model.specs.Safety.{Collided, Derailed, IsKept};
 ghost use Rattle.rl_domain.specs.States.{meets, any_meet};
-ghost use Rattle.rl_model.specs.Moves.{IsTrainOf};
+ghost use Rattle.rl_model.specs.Network.{IsTrainOf};
 ghost use Rattle.rl_domain.specs.Rests.{IsOffRails};
-ghost use Rattle.rl_domain.specs.Tables.{world_of, Fits};
+ghost use Rattle.rl_domain.specs.Rows.{world_of, Fits};
 
-use crate::facts::points_connect;
-use crate::tables::Standing;
+use crate::conditions::points_connect;
+use crate::states::Standing;
 use crate::world::World;
 use rl_base::TrainId;
 use rl_model::laws::safe_runs;
@@ -47,7 +47,7 @@ impl World {
     /// Whether the train is across a box whose points don't connect its two segments.
     fn is_off_rails(&self, net: &Network, t: TrainId) -> bool
         requires fits { Fits net.now self.now }
-        requires train { IsTrainOf net.now t }
+        requires there { IsTrainOf net.now t }
         ensures { IsTrue result ↔ IsOffRails net.now self.now t.0 }
     {
         let standing = self.standing(t);

@@ -3,11 +3,11 @@ ghost use Rattle.rl_model.specs.declared.network.NetworkPlan.{NetworkPlan};
 ghost use Rattle.rl_model.specs.Safety.{IsKept};
 ghost use Rattle.rl_model.specs.World.{start};
 ghost use Rattle.rl_model.specs.Moves.{guards, AllHold, FirstFails, after};
-ghost use Rattle.rl_domain.specs.Tables.{world_of, Fits};
+ghost use Rattle.rl_domain.specs.Rows.{world_of, Fits};
 ghost use Rattle.rl_model.specs.Moves.{IsMoveOf};
 
-use crate::starts::{first_standings, first_states};
-use crate::tables::{BoxState, Standing};
+use crate::first_states::{first_standings, first_states};
+use crate::states::{BoxState, Standing};
 use rl_base::{BoxId, NoMemory, TrainId};
 use rl_model::Move;
 use rl_model::laws::safe_runs;
@@ -29,9 +29,9 @@ pub struct World {
 }
 
 impl Model for World {
-    ghost use Rattle.rl_domain.specs.Tables.{Tables};
+    ghost use Rattle.rl_domain.specs.Rows.{Rows};
 
-    ghost Value = { Tables };
+    ghost Value = { Rows };
 
     ghost view = { λ w. record { trains = w.trains.items; boxes = w.boxes.items } };
 }

@@ -6,17 +6,19 @@ use Rattle.std.proofs.lemmas.Bool.{and_parts, and_from, false≢true, eqb-true, 
 use Rattle.std.specs.Option.{option_map_or, option_map}
 use Rattle.std.proofs.lemmas.Option.{option_and_then_some}
 use Rattle.rl_base.specs.declared.ids.SegId.{SegId}
+use Rattle.rl_base.specs.declared.ids.BoxId.{BoxId}
+use Rattle.rl_base.specs.declared.ids.TrainId.{TrainId}
 use Rattle.rl_model.specs.declared.network.Train.{Train}
 use Rattle.std.specs.List.{AllByRecursion}
 use Rattle.rl_base.specs.declared.kind.Side.{Side}
 use Rattle.rl_model.specs.declared.moves.Move.{Move}
-use Rattle.rl_model.specs.declared.moves.Move.TheVariants.{Reserve, Release, Lock, Unlock, Throw, Settle, Enter, Leave, Refuse, Bar}
+use Rattle.rl_model.specs.declared.moves.Move.TheVariants.{Reserve, Release, Lock, Unlock, Throw, Settle, Enter, Leave}
 use Rattle.rl_model.specs.declared.network.NetworkPlan.{NetworkPlan}
 use Rattle.rl_model.specs.declared.network.Segment.{Segment}
 use Rattle.rl_model.specs.Network.{IsNetwork, StartsOn}
 use Rattle.rl_model.specs.declared.moves.Points.TheVariants as points
 use Rattle.rl_model.specs.World.{World, start, starts_on, points_connect, points_at}
-use Rattle.rl_model.specs.Moves.{guards, AllHold, after, holds_ends, reserve, release, lock, unlock, throw, settle, enter, leave, reserve_guards, release_guards, lock_guards, unlock_guards, throw_guards, settle_guards, enter_guards, leave_guards}
+use Rattle.rl_model.specs.Moves.{guards, AllHold, after, holds_ends}
 use Rattle.rl_model.specs.Safety.{IsKept, IsSafe, GuardedFrom, worlds_from, IsSafeRun, Guarded}
 
 -- who holds a segment at both ends by one test holds it there by every wider test
@@ -26,27 +28,27 @@ ends_wider f g (Some x) wider h =
     let both = and_parts (f x.low.at.0) (f x.high.at.0) h in
     and_from _ _ (wider _ both.0) (wider _ both.1)
 
-kept_reserve : (net : NetworkPlan) (w : World) (t s b : ℕ) → IsKept net w → AllHold (reserve_guards net w s b) → IsKept net (reserve w t s b)
+kept_reserve : (net : NetworkPlan) (w : World) (t : TrainId) (s : SegId) (b : BoxId) → IsKept net w → AllHold (guards net w (Reserve t s b)) → IsKept net (after w (Reserve t s b))
 kept_reserve net w t s b kept holds =
     record {
       one_holder = λ x u z c h k. let free = holds.1.0 in grind (arith, nat_tests, free, kept.one_holder x u z c);
       one_lock = kept.one_lock;
-      held = λ x y here. ends_wider (w.holds x y) ((reserve w t s b).holds x y) (slice_get net.segments y) (λ c h. grind (arith, nat_tests)) (kept.held x y here);
+      held = λ x y here. ends_wider (w.holds x y) ((after w (Reserve t s b)).holds x y) (slice_get net.segments y) (λ c h. grind (arith, nat_tests)) (kept.held x y here);
       has_lock = kept.has_lock;
       connected = kept.connected;
     }
 
-kept_release : (net : NetworkPlan) (w : World) (t s b : ℕ) → IsKept net w → AllHold (release_guards net w t s b) → IsKept net (release w t s b)
+kept_release : (net : NetworkPlan) (w : World) (t : TrainId) (s : SegId) (b : BoxId) → IsKept net w → AllHold (guards net w (Release t s b)) → IsKept net (after w (Release t s b))
 kept_release net w t s b kept holds =
     record {
       one_holder = λ x u z c h k. grind (arith, nat_tests, kept.one_holder x u z c);
       one_lock = kept.one_lock;
-      held = λ x y here. ends_wider (w.holds x y) ((release w t s b).holds x y) (slice_get net.segments y) (λ c h. let off = holds.1.1.0 in grind (arith, nat_tests)) (kept.held x y here);
+      held = λ x y here. ends_wider (w.holds x y) ((after w (Release t s b)).holds x y) (slice_get net.segments y) (λ c h. let off = holds.1.1.0 in grind (arith, nat_tests)) (kept.held x y here);
       has_lock = kept.has_lock;
       connected = kept.connected;
     }
 
-kept_lock : (net : NetworkPlan) (w : World) (t b s s2 : ℕ) → IsKept net w → AllHold (lock_guards net w t b s s2) → IsKept net (lock w t b s s2)
+kept_lock : (net : NetworkPlan) (w : World) (t : TrainId) (b : BoxId) (s : SegId) (s2 : SegId) → IsKept net w → AllHold (guards net w (Lock t b s s2)) → IsKept net (after w (Lock t b s s2))
 kept_lock net w t b s s2 kept holds =
     record {
       one_holder = kept.one_holder;
@@ -56,18 +58,18 @@ kept_lock net w t b s s2 kept holds =
       connected = kept.connected;
     }
 
-kept_unlock : (net : NetworkPlan) (w : World) (t b : ℕ) → IsKept net w → AllHold (unlock_guards w t b) → IsKept net (unlock w b)
+kept_unlock : (net : NetworkPlan) (w : World) (t : TrainId) (b : BoxId) → IsKept net w → AllHold (guards net w (Unlock t b)) → IsKept net (after w (Unlock t b))
 kept_unlock net w t b kept holds =
     record {
       one_holder = kept.one_holder;
       one_lock = λ x u c f g f2 g2 h k. kept.one_lock x u c f g f2 g2 (and_parts _ _ h).0 (and_parts _ _ k).0;
       held = kept.held;
-      has_lock = λ x c f g h. let mine = kept.has_lock x c f g h in let lock = holds.0.2 in let off = holds.1.0 f g in grind (arith, nat_tests, kept.one_lock x t c f g holds.0.0 holds.0.1);
+      has_lock = λ x c f g h. let mine = kept.has_lock x c f g h in let lock = holds.0.2 in let off = holds.1.0 f g in grind (arith, nat_tests, kept.one_lock x t.0 c f g holds.0.0 holds.0.1);
       connected = kept.connected;
     }
 
 -- who is across a box has a path there that the points connect, and which is locked
-kept_throw : (net : NetworkPlan) (w : World) (b : ℕ) → IsKept net w → AllHold (throw_guards net w b) → IsKept net (throw w b)
+kept_throw : (net : NetworkPlan) (w : World) (b : BoxId) → IsKept net w → AllHold (guards net w (Throw b)) → IsKept net (after w (Throw b))
 kept_throw net w b kept holds =
     record {
       one_holder = kept.one_holder;
@@ -75,9 +77,9 @@ kept_throw net w b kept holds =
       held = kept.held;
       has_lock = kept.has_lock;
       connected = λ x c f g h.
-          cond_both (c == b) points.Moving (w.points c) (λ p. points_connect net c f g p ≡ true)
+          cond_both (c == b.0) points.Moving (w.points c) (λ p. points_connect net c f g p ≡ true)
           (λ e.
-          let same = eqb-true c b e in
+          let same = eqb-true c b.0 e in
           let locked = subst (λ z. w.locked z x f g ≡ true) same (kept.has_lock x c f g h) in
           let connected = subst (λ z. points_connect net z f g (w.points z) ≡ true) same (kept.connected x c f g h) in
           absurd (false≢true (sym (holds.1.0 x f g locked) ∙ connected)))
@@ -85,7 +87,7 @@ kept_throw net w b kept holds =
     }
 
 -- nobody is across a box whose points move
-kept_settle : (net : NetworkPlan) (w : World) (b : ℕ) (side : Side) → IsKept net w → AllHold (settle_guards net w b side) → IsKept net (settle w b side)
+kept_settle : (net : NetworkPlan) (w : World) (b : BoxId) (side : Side) → IsKept net w → AllHold (guards net w (Settle b side)) → IsKept net (after w (Settle b side))
 kept_settle net w b side kept holds =
     record {
       one_holder = kept.one_holder;
@@ -93,15 +95,15 @@ kept_settle net w b side kept holds =
       held = kept.held;
       has_lock = kept.has_lock;
       connected = λ x c f g h.
-          cond_both (c == b) (points_at side) (w.points c) (λ p. points_connect net c f g p ≡ true)
+          cond_both (c == b.0) (points_at side) (w.points c) (λ p. points_connect net c f g p ≡ true)
           (λ e.
-          let same = eqb-true c b e in
+          let same = eqb-true c b.0 e in
           let connected = subst (λ z. points_connect net z f g (w.points z) ≡ true) same (kept.connected x c f g h) in
-          absurd (false≢true (subst (λ p. points_connect net b f g p ≡ true) holds.0.1 connected)))
+          absurd (false≢true (subst (λ p. points_connect net b.0 f g p ≡ true) holds.0.1 connected)))
           (λ e. kept.connected x c f g h);
     }
 
-kept_enter : (net : NetworkPlan) (w : World) (t b s s2 : ℕ) → IsKept net w → AllHold (enter_guards net w t b s s2) → IsKept net (enter w t b s s2)
+kept_enter : (net : NetworkPlan) (w : World) (t : TrainId) (b : BoxId) (s : SegId) (s2 : SegId) → IsKept net w → AllHold (guards net w (Enter t b s s2)) → IsKept net (after w (Enter t b s s2))
 kept_enter net w t b s s2 kept holds =
     record {
       one_holder = kept.one_holder;
@@ -111,7 +113,7 @@ kept_enter net w t b s s2 kept holds =
       connected = λ x c f g h. let joined = holds.1.1.1.1.0 in grind (arith, nat_tests, kept.connected x c f g);
     }
 
-kept_leave : (net : NetworkPlan) (w : World) (t s : ℕ) → IsKept net w → AllHold (leave_guards w t s) → IsKept net (leave w t s)
+kept_leave : (net : NetworkPlan) (w : World) (t : TrainId) (s : SegId) → IsKept net w → AllHold (guards net w (Leave t s)) → IsKept net (after w (Leave t s))
 kept_leave net w t s kept holds =
     record {
       one_holder = kept.one_holder;
@@ -123,16 +125,15 @@ kept_leave net w t s kept holds =
 
 -- each of the ten moves keeps the kept facts
 pub kept_after : (net : NetworkPlan) (w : World) (m : Move) → IsKept net w → AllHold (guards net w m) → IsKept net (after w m)
-kept_after net w (Reserve t s b) kept holds = kept_reserve net w t.0 s.0 b.0 kept holds
-kept_after net w (Release t s b) kept holds = kept_release net w t.0 s.0 b.0 kept holds
-kept_after net w (Lock t b s s2) kept holds = kept_lock net w t.0 b.0 s.0 s2.0 kept holds
-kept_after net w (Unlock t b) kept holds = kept_unlock net w t.0 b.0 kept holds
-kept_after net w (Throw b) kept holds = kept_throw net w b.0 kept holds
-kept_after net w (Settle b side) kept holds = kept_settle net w b.0 side kept holds
-kept_after net w (Enter t b s s2) kept holds = kept_enter net w t.0 b.0 s.0 s2.0 kept holds
-kept_after net w (Leave t s) kept holds = kept_leave net w t.0 s.0 kept holds
-kept_after net w (Refuse t s b u) kept holds = kept
-kept_after net w (Bar t b u) kept holds = kept
+kept_after net w (Reserve t s b) kept holds = kept_reserve net w t s b kept holds
+kept_after net w (Release t s b) kept holds = kept_release net w t s b kept holds
+kept_after net w (Lock t b s s2) kept holds = kept_lock net w t b s s2 kept holds
+kept_after net w (Unlock t b) kept holds = kept_unlock net w t b kept holds
+kept_after net w (Throw b) kept holds = kept_throw net w b kept holds
+kept_after net w (Settle b side) kept holds = kept_settle net w b side kept holds
+kept_after net w (Enter t b s s2) kept holds = kept_enter net w t b s s2 kept holds
+kept_after net w (Leave t s) kept holds = kept_leave net w t s kept holds
+kept_after net w _ kept holds = kept
 
 pub safe_kept : (net : NetworkPlan) (w : World) → IsKept net w → IsSafe net w
 safe_kept net w kept = grind (arith, common_steps)

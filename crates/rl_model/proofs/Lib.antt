@@ -1,11 +1,1 @@
 pub mod Kept
-pub mod ExampleRun
-pub mod Search
-pub mod Places
-pub mod Refusals
-pub mod Lookups
-pub mod Numbers
-pub mod Ends
-pub mod RouteNames
-pub mod Accepted
-pub mod Networks

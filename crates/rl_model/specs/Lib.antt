@@ -4,6 +4,3 @@ pub mod Moves
 pub mod Safety
 pub mod Reports
 pub mod ReportText
-pub mod Drafts
-pub mod Refusals
-pub mod Examples

@@ -1,6 +1,10 @@
 -- The network as a value: who ends where, what a box connects, and what acceptance gives.
 use Rattle.std.specs.Prelude.{◌≡◌, ℕ, ◌+◌, ◌<◌, ◌≤◌, ◌≢◌, ◌==◌, Bool, false, ◌||◌, if◌then◌else◌, IsTrue, List, [], length, slice_get, Option, Some, None, is_some, option_map, option_and_then}
 use Rattle.std.specs.Option.{option_map_or}
+use Rattle.rl_base.specs.declared.ids.SegId.{SegId}
+use Rattle.rl_base.specs.declared.ids.BoxId.{BoxId}
+use Rattle.rl_base.specs.declared.ids.TrainId.{TrainId}
+use Rattle.rl_base.specs.declared.limits.TheConstants.{MAX_SEGMENTS, MAX_BOXES, MAX_TRAINS, MAX_STEPS}
 use Rattle.rl_base.specs.declared.kind.Kind.{Kind}
 use Rattle.rl_base.specs.declared.kind.Kind.TheVariants.{Buffer, Point}
 use Rattle.rl_base.specs.declared.kind.Side.{Side}
@@ -12,6 +16,16 @@ use Rattle.rl_model.specs.declared.network.Segment.{Segment}
 use Rattle.rl_model.specs.declared.network.SwitchBox.{SwitchBox}
 use Rattle.rl_model.specs.declared.network.Train.{Train}
 use Rattle.rl_model.specs.declared.network.NetworkPlan.{NetworkPlan}
+
+-- the number is that of a segment, a box or a train of the network
+abbrev pub IsSegmentOf : NetworkPlan → SegId → Type 0
+IsSegmentOf net s = s.0 < length net.segments
+
+abbrev pub IsBoxOf : NetworkPlan → BoxId → Type 0
+IsBoxOf net b = b.0 < length net.boxes
+
+abbrev pub IsTrainOf : NetworkPlan → TrainId → Type 0
+IsTrainOf net t = t.0 < length net.trains
 
 -- the arm at which the segment ends at box b
 abbrev pub arm_at : ℕ → Segment → Option ℕ
@@ -36,8 +50,7 @@ start_side net b = option_map_or (λ (x : SwitchBox). x.side) (slice_get net.box
 -- both arms are there, and a box of the kind connects them
 abbrev pub joined : Kind → Side → Option ℕ → Option ℕ → Bool
 joined kind side (Some x) (Some y) = arms_join kind x y side
-joined kind side (Some x) None = false
-joined kind side None y = false
+joined kind side _ _ = false
 
 -- box b connects segments s and s2 where it stands at the side
 abbrev pub connects : NetworkPlan → ℕ → ℕ → ℕ → Side → Bool
@@ -102,10 +115,10 @@ pub record IsBox (net : NetworkPlan) (b : ℕ) (x : SwitchBox) : Type 0 where
   pub side : x.kind ≢ Point → x.side ≡ Left
   pub name : IsTrue (is_name x.name)
 
--- a route has a segment more than boxes, at most 64 steps, and each step can be connected
+-- a route has a segment more than boxes, not too many steps, and each step can be connected
 pub record IsTrain (net : NetworkPlan) (t : ℕ) (r : Train) : Type 0 where
   pub shape : length r.segments ≡ length r.boxes + 1
-  pub short : length r.boxes ≤ 64
+  pub short : length r.boxes ≤ MAX_STEPS
   pub segments : (k s : ℕ) → route_segment net t k ≡ Some s → s < length net.segments
   pub boxes : (k b : ℕ) → route_box net t k ≡ Some b → b < length net.boxes
   pub fits : (k s b s2 : ℕ) → IsStep net t k s b s2 → IsTrue (can_connect net b s s2)
@@ -117,9 +130,9 @@ StartsOn net t s = route_segment net t 0 ≡ Some s
 
 -- what acceptance gives: the sizes, each part in itself, names that differ, and starts that differ
 pub record IsNetwork (net : NetworkPlan) : Type 0 where
-  pub few_segments : length net.segments ≤ 256
-  pub few_boxes : length net.boxes ≤ 128
-  pub few_trains : length net.trains ≤ 32
+  pub few_segments : length net.segments ≤ MAX_SEGMENTS
+  pub few_boxes : length net.boxes ≤ MAX_BOXES
+  pub few_trains : length net.trains ≤ MAX_TRAINS
   pub segments : (s : ℕ) (g : Segment) → slice_get net.segments s ≡ Some g → IsSegment net s g
   pub boxes : (b : ℕ) (x : SwitchBox) → slice_get net.boxes b ≡ Some x → IsBox net b x
   pub trains : (t : ℕ) (r : Train) → slice_get net.trains t ≡ Some r → IsTrain net t r

@@ -1,8 +1,7 @@
 -- The text of a report, line by line. Words are parted by one space, and each line ends with LF.
 use Rattle.std.specs.Prelude.{ℕ, List, [], ◌∷◌, ◌++◌, suc, codes, decimal, flat_map}
 use Rattle.std.specs.List.{join_with_byte}
-use Rattle.rl_base.specs.declared.kind.Side.{Side}
-use Rattle.rl_base.specs.declared.kind.Side.TheVariants.{Left, Right}
+use Rattle.rl_base.specs.Kind.{side_word}
 use Rattle.rl_model.specs.declared.moves.Move.{Move}
 use Rattle.rl_model.specs.declared.moves.Move.TheVariants.{Reserve, Release, Lock, Unlock, Throw, Settle, Enter, Leave, Refuse, Bar}
 use Rattle.rl_model.specs.declared.network.NetworkPlan.{NetworkPlan}
@@ -15,10 +14,6 @@ use Rattle.rl_model.specs.Network.{segment_name, box_name, train_name}
 -- the words, parted by one space, and the end of the line
 abbrev pub line_of : List (List ℕ) → List ℕ
 line_of words = join_with_byte 32 words ++ 10 ∷ []
-
-abbrev pub side_word : Side → List ℕ
-side_word Left = codes "left"
-side_word Right = codes "right"
 
 abbrev pub fate_word : Fate → List ℕ
 fate_word Arrived = codes "arrived"

@@ -1,5 +1,6 @@
 -- Right reports: what is counted, which fate fits, and that the moves are a safe run.
 use Rattle.std.specs.Prelude.{◌≡◌, ℕ, ◌+◌, ◌<◌, ◌≤◌, ◌==◌, Bool, true, false, ◌&&◌, List, length, count_by, slice_get, Some}
+use Rattle.rl_base.specs.declared.limits.TheConstants.{MIN_TRIES, MAX_TRIES, MAX_MOVES}
 use Rattle.rl_model.specs.declared.moves.Move.{Move}
 use Rattle.rl_model.specs.declared.moves.Move.TheVariants.{Leave, Refuse, Bar}
 use Rattle.rl_model.specs.declared.network.NetworkPlan.{NetworkPlan}
@@ -60,11 +61,11 @@ pub record IsRightReport (net : NetworkPlan) (report : Report) : Type 0 where
   pub trains : length report.outcomes ≡ length net.trains
   pub outcomes : (t : ℕ) (o : Outcome) → slice_get report.outcomes t ≡ Some o → IsRightOutcome net report.tries report.moves t o
 
--- what a report of the network has in range: tries from 1 to 1000, moves of the network, and an outcome for
--- each train with numbers of at most 1,000,000
+-- what a report of the network has in range: the tries, moves of the network, and an outcome for each train whose
+-- numbers are no more than a report has moves
 pub record IsReportOf (net : NetworkPlan) (report : Report) : Type 0 where
-  pub some_tries : 1 ≤ report.tries
-  pub few_tries : report.tries ≤ 1000
+  pub some_tries : MIN_TRIES ≤ report.tries
+  pub few_tries : report.tries ≤ MAX_TRIES
   pub moves : (k : ℕ) (m : Move) → slice_get report.moves k ≡ Some m → IsMoveOf net m
   pub trains : length report.outcomes ≡ length net.trains
-  pub outcomes : (t : ℕ) (o : Outcome) → slice_get report.outcomes t ≡ Some o → (o.made ≤ 1000000) × (o.refused ≤ 1000000)
+  pub outcomes : (t : ℕ) (o : Outcome) → slice_get report.outcomes t ≡ Some o → (o.made ≤ MAX_MOVES) × (o.refused ≤ MAX_MOVES)

@@ -2,7 +2,7 @@
 use Rattle.std.proofs.Common.{◌≡◌, ℕ, zero, suc, ◌+◌, ◌<◌, Bool, true, false, cond, List, [], ◌∷◌, ◌++◌, length, take, get_or, refl, sym, ap, arith, add-zero, append-nil, append_assoc, bytes_eq, if◌then◌else◌}
 use Rattle.rl_base.specs.declared.draft.DraftBox.{DraftBox}
 use Rattle.rl_model.specs.declared.network.SegmentEnd.{SegmentEnd}
-use Rattle.rl_model.specs.Drafts.{end_at, ends_in_box, ends_from}
+use Rattle.rl_drafts.specs.Drafts.{end_at, ends_in_box, ends_from}
 
 -- the end at the arm, if it has the name
 abbrev pub end_if : Bool → ℕ → ℕ → List SegmentEnd

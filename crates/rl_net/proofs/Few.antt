@@ -10,17 +10,18 @@ use Rattle.rl_base.specs.declared.draft.DraftBox.{DraftBox}
 use Rattle.rl_base.specs.declared.draft.DraftTrain.{DraftTrain}
 use Rattle.rl_base.specs.declared.draft.Draft.{Draft}
 use Rattle.rl_base.specs.Kind.{arms_of}
-use Rattle.rl_model.specs.Refusals.{Count, ArmCount, breaks, among_trains, among_boxes, arms_at, route_length}
+use Rattle.rl_drafts.specs.Refusals.{breaks}
+use Rattle.rl_drafts.specs.Search.{among_boxes, among_trains, arms_at, route_length}
 use Rattle.rl_net.proofs.Search.{none_below, none_tried, tried}
 
 -- no route is too long
-pub routes_short : (d : Draft) → among_trains d Count TrainRoute ≡ None → (i : ℕ) → route_length d i ≤ 129
+pub routes_short : (d : Draft) → among_trains d 5 TrainRoute ≡ None → (i : ℕ) → route_length d i ≤ 129
 routes_short d none i = at (slice_get d.trains i) refl
   where
     at : (o : Option DraftTrain) → slice_get d.trains i ≡ o → option_map_or (λ (t : DraftTrain). length t.route) o 0 ≤ 129
     at None e = omega arith
     at (Some t) e =
-        let test : ℕ → Bool = λ k. breaks d Count (TrainRoute k) in
+        let test : ℕ → Bool = λ k. breaks d 5 (TrainRoute k) in
         let fine : test i ≡ false = none_tried test (λ k. TrainRoute k) i (none_below (tried test (λ k. TrainRoute k)) (length d.trains) i none (slice_get_within d.trains i t e)) in
         let short : ltb 129 (length t.route) ≡ false = rw e at fine in
         grind (arith, nat_tests)
@@ -33,7 +34,7 @@ four_arms Point = omega arith
 four_arms Crossing = omega arith
 
 -- no box has too many arms
-pub arms_few : (d : Draft) → among_boxes d ArmCount BoxArms ≡ None → (i : ℕ) → arms_at d i ≤ 4
+pub arms_few : (d : Draft) → among_boxes d 7 BoxArms ≡ None → (i : ℕ) → arms_at d i ≤ 4
 arms_few d none i = at (slice_get d.boxes i) refl
   where
     not_false : (a b : ℕ) → not (eqb a b) ≡ false → a ≡ b
@@ -42,7 +43,7 @@ arms_few d none i = at (slice_get d.boxes i) refl
     at : (o : Option DraftBox) → slice_get d.boxes i ≡ o → option_map_or (λ (x : DraftBox). length x.arms) o 0 ≤ 4
     at None e = omega arith
     at (Some x) e =
-        let test : ℕ → Bool = λ k. breaks d ArmCount (BoxArms k) in
+        let test : ℕ → Bool = λ k. breaks d 7 (BoxArms k) in
         let fine : test i ≡ false = none_tried test (λ k. BoxArms k) i (none_below (tried test (λ k. BoxArms k)) (length d.boxes) i none (slice_get_within d.boxes i x e)) in
         let right : not (eqb (length x.arms) (arms_of x.kind)) ≡ false = rw e at fine in
         omega (arith, not_false _ _ right, four_arms x.kind)

@@ -1,7 +1,7 @@
 -- Lists that are made item by item from the items of another list.
 use Rattle.std.proofs.Common.{◌≡◌, ℕ, zero, suc, ◌+◌, ◌<◌, List, [], ◌∷◌, ◌++◌, length, map, take, drop, get_or, refl, sym, ap, ◌∙◌, arith, append_assoc}
 use Rattle.std.proofs.lemmas.List.{map_more}
-use Rattle.rl_model.specs.Drafts.{every_other}
+use Rattle.rl_drafts.specs.Drafts.{every_other}
 
 -- one item more is appended
 pub map_step : {X Y : Type 0} (f : X → Y) (xs : List X) (made next : List Y) (i : ℕ) (x : X) (y : Y) → i < length xs → x ≡ get_or xs i x → made ≡ map f (take i xs) → y ≡ f x → next ≡ made ++ y ∷ [] → next ≡ map f (take (i + 1) xs)

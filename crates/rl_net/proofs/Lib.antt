@@ -1,7 +1,11 @@
 pub mod Growth
 pub mod EndLists
+pub mod EndTables
 pub mod Few
 pub mod Numbers
+pub mod NameKeys
+pub mod Found
+pub mod NamedNetworks
 pub mod Passages
 pub mod Search
-pub mod Tables
+pub mod Twice

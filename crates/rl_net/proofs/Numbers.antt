@@ -1,11 +1,12 @@
 -- The place of a name among the names of a list, found item by item.
-use Rattle.std.proofs.Common.{◌≡◌, ℕ, zero, suc, ◌<◌, Bool, true, false, cond, List, [], ◌∷◌, length, take, map, get_or, slice_get, Option, Some, None, IfSome, is_some, option_map, refl, ap, ◌∙◌, subst, arith, bytes_eq}
+use Rattle.std.proofs.Common.{◌≡◌, ℕ, zero, suc, ◌+◌, ◌<◌, ◌≤◌, inl, inr, Bool, true, false, cond, List, [], ◌∷◌, length, take, map, get_or, slice_get, Option, Some, None, IfSome, is_some, option_map, refl, ap, ◌∙◌, subst, arith, bytes_eq}
 use Rattle.std.proofs.lemmas.List.{take-map, length-map}
-use Rattle.std.proofs.lemmas.Option.{slice_get-map, slice_get_read}
+use Rattle.std.proofs.lemmas.Bool.{cases_lt}
+use Rattle.std.proofs.lemmas.Option.{slice_get-map, slice_get_read, slice_get_past}
 use Rattle.rl_base.specs.declared.draft.DraftBox.{DraftBox}
 use Rattle.rl_base.specs.declared.draft.Draft.{Draft}
-use Rattle.rl_model.specs.Drafts.{number_in, box_names}
-use Rattle.rl_model.specs.Refusals.{is_twice}
+use Rattle.rl_drafts.specs.Drafts.{number_in, box_names}
+use Rattle.rl_drafts.specs.Refusals.{is_twice}
 
 -- where no name of the list is found, the first one isn't it, and none of the others is
 cond_none : (b : Bool) (o : Option ℕ) → cond b (Some 0) (option_map suc o) ≡ None → (b ≡ false) × (o ≡ None)
@@ -55,3 +56,13 @@ number_in_within (n ∷ ns) name = step (bytes_eq n name) (number_in ns name) (n
 pub box_number_within : (d : Draft) (name : List ℕ) → IfSome (number_in (box_names d) name) (λ b. b < length d.boxes)
 box_number_within d name =
     subst (λ (m : ℕ). IfSome (number_in (box_names d) name) (λ b. b < m)) (length-map d.boxes (λ (x : DraftBox). x.name)) (number_in_within (box_names d) name)
+
+-- a test that fails below a number and at it
+pub below_more : (test : ℕ → Bool) (i : ℕ) → ((j : ℕ) → j < i → test j ≡ false) → test i ≡ false → (j : ℕ) → j < i + 1 → test j ≡ false
+below_more test i before here j l =
+    elim (cases_lt j i) [ inl less ↦ before j less | inr more ↦ (let e : j ≡ i = omega arith in rw e here) ]
+
+-- no name of the list is that of an earlier one where none at a place within it is
+pub unlike_within : (names : List (List ℕ)) (n : ℕ) → length names ≤ n → ((j : ℕ) → j < n → is_twice names j ≡ false) → (i : ℕ) → is_twice names i ≡ false
+unlike_within names n all each i =
+    elim (cases_lt i n) [ inl less ↦ each i less | inr more ↦ (let past : slice_get names i ≡ None = slice_get_past names i (omega arith) in rw past refl) ]

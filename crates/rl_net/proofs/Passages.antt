@@ -9,9 +9,9 @@ use Rattle.rl_base.specs.declared.place.Place.TheVariants.{RouteItem}
 use Rattle.rl_base.specs.declared.draft.DraftBox.{DraftBox}
 use Rattle.rl_base.specs.declared.draft.DraftTrain.{DraftTrain}
 use Rattle.rl_base.specs.declared.draft.Draft.{Draft}
-use Rattle.rl_model.specs.Drafts.{number_in, box_names}
-use Rattle.rl_model.specs.Refusals.{StartShared, breaks, first_below, connects_names, box_named, fits_at, is_start, starts_below, route_length}
-use Rattle.rl_net.specs.Rows.{among_places_of}
+use Rattle.rl_drafts.specs.Drafts.{number_in, box_names}
+use Rattle.rl_drafts.specs.Refusals.{box_named, breaks, connects_names, fits_at, is_start, starts_below}
+use Rattle.rl_drafts.specs.Search.{among_places_of, first_below, route_length}
 use Rattle.rl_net.proofs.Search.{tried, tried_found}
 
 -- the item at one place more of a list with one item more
@@ -41,11 +41,11 @@ fits_at_none d route j name here number =
     rw (here, named) refl
 
 -- an earlier train starts where train i does
-pub start_is_shared : (d : Draft) (i : ℕ) (t : DraftTrain) (name : List ℕ) → slice_get d.trains i ≡ Some t → slice_get t.route 0 ≡ Some name → is_start (starts_below d i) name ≡ true → among_places_of d StartShared i ≡ Some (RouteItem i 0)
+pub start_is_shared : (d : Draft) (i : ℕ) (t : DraftTrain) (name : List ℕ) → slice_get d.trains i ≡ Some t → slice_get t.route 0 ≡ Some name → is_start (starts_below d i) name ≡ true → among_places_of d 15 i ≡ Some (RouteItem i 0)
 start_is_shared d i t name here first shared =
-    let broken : breaks d StartShared (RouteItem i 0) ≡ true = rw (here, first) shared in
+    let broken : breaks d 15 (RouteItem i 0) ≡ true = rw (here, first) shared in
     let some : 0 < route_length d i = rw here (slice_get_within t.route 0 name first) in
-    tried_found (λ j. breaks d StartShared (RouteItem i j)) (λ j. RouteItem i j) 0 (route_length d i) refl broken some
+    tried_found (λ j. breaks d 15 (RouteItem i j)) (λ j. RouteItem i j) 0 (route_length d i) refl broken some
 
 -- a search that finds nothing anywhere
 all_none : (f : ℕ → Option Place) → ((j : ℕ) → f j ≡ None) → (n : ℕ) → first_below f n ≡ None
@@ -53,20 +53,20 @@ all_none f none zero = refl
 all_none f none (suc n) = rw (all_none f none n, none n) refl
 
 -- no place after the first breaks the rule
-unbroken : (d : Draft) (i : ℕ) → breaks d StartShared (RouteItem i 0) ≡ false → (j : ℕ) → breaks d StartShared (RouteItem i j) ≡ false
+unbroken : (d : Draft) (i : ℕ) → breaks d 15 (RouteItem i 0) ≡ false → (j : ℕ) → breaks d 15 (RouteItem i j) ≡ false
 unbroken d i first zero = first
 unbroken d i first (suc j) =
     let later : eqb (suc j) 0 ≡ false = grind (arith, nat_tests) in
     rw later refl
 
 -- no earlier train starts where train i does
-pub start_is_own : (d : Draft) (i : ℕ) (t : DraftTrain) (name : List ℕ) → slice_get d.trains i ≡ Some t → slice_get t.route 0 ≡ Some name → is_start (starts_below d i) name ≡ false → among_places_of d StartShared i ≡ None
+pub start_is_own : (d : Draft) (i : ℕ) (t : DraftTrain) (name : List ℕ) → slice_get d.trains i ≡ Some t → slice_get t.route 0 ≡ Some name → is_start (starts_below d i) name ≡ false → among_places_of d 15 i ≡ None
 start_is_own d i t name here first own =
-    let right : breaks d StartShared (RouteItem i 0) ≡ false = rw (here, first) own in
-    all_none (tried (λ j. breaks d StartShared (RouteItem i j)) (λ j. RouteItem i j)) (λ j. rw (unbroken d i right j) refl) (route_length d i)
+    let right : breaks d 15 (RouteItem i 0) ≡ false = rw (here, first) own in
+    all_none (tried (λ j. breaks d 15 (RouteItem i j)) (λ j. RouteItem i j)) (λ j. rw (unbroken d i right j) refl) (route_length d i)
 
 -- a train without a route starts nowhere
-pub no_start : (d : Draft) (i : ℕ) (t : DraftTrain) → slice_get d.trains i ≡ Some t → t.route ≡ [] → among_places_of d StartShared i ≡ None
+pub no_start : (d : Draft) (i : ℕ) (t : DraftTrain) → slice_get d.trains i ≡ Some t → t.route ≡ [] → among_places_of d 15 i ≡ None
 no_start d i t here empty =
     let none : route_length d i ≡ 0 = rw (here, empty) refl in
     rw none refl

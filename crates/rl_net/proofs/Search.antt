@@ -3,7 +3,7 @@ use Rattle.std.proofs.Common.{◌≡◌, ℕ, zero, suc, ◌<◌, ◌≤◌, Boo
 use Rattle.std.proofs.lemmas.Bool.{cases_lt}
 use Rattle.std.specs.Option.{option_or}
 use Rattle.rl_base.specs.declared.place.Place.{Place}
-use Rattle.rl_model.specs.Refusals.{first_below}
+use Rattle.rl_drafts.specs.Search.{first_below}
 
 -- the place, if the test passes there
 abbrev pub tried : (ℕ → Bool) → (ℕ → Place) → ℕ → Option Place
@@ -54,3 +54,10 @@ none_tried test at i e = split (test i) e
     split : (b : Bool) → cond b (Some (at i)) None ≡ None → b ≡ false
     split true h = cc
     split false h = refl
+
+-- a search whose test fails everywhere below a number finds nothing
+pub nowhere : (test : ℕ → Bool) (at : ℕ → Place) (n : ℕ) → ((j : ℕ) → j < n → test j ≡ false) → first_below (tried test at) n ≡ None
+nowhere test at zero h = refl
+nowhere test at (suc n) h =
+    let here : tried test at n ≡ None = rw (h n (omega arith)) refl in
+    first_below_none (tried test at) n (nowhere test at n (λ j l. h j (omega arith))) here

@@ -1,6 +1,5 @@
 pub mod Sizes
-pub mod Rows
 pub mod Ends
 pub mod NetRefusals
 pub mod NameTables
-pub mod Indexes
+pub mod NamedNetwork

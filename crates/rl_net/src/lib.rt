@@ -6,23 +6,22 @@
 //! trains that move, or what a box answers.
 #![tactic(auto)]
 
-mod acceptance;
-mod arms;
-mod counts;
-mod ends;
-mod find;
-mod fits;
-mod index;
+mod draft_check;
+mod draft_network;
+mod name_table;
+mod named_draft;
 mod names;
 pub mod network;
-mod plan;
 pub mod refusal;
-mod routes;
-mod sides;
-mod starts;
-mod table;
-mod twice;
+mod rule_10_ends;
+mod rule_11_sides;
+mod rule_14_fits;
+mod rule_15_starts;
+mod rule_5_counts;
+mod rule_6_twice;
+mod rules_12_13_routes;
+mod rules_7_to_9_arms;
 
-pub use acceptance::check;
+pub use draft_check::check;
 pub use network::Network;
 pub use refusal::NetRefusal;

@@ -1,6 +1,6 @@
 ghost use Rattle.std.specs.Prelude.{◌≡◌, ◌<◌, ℕ, List, length, map, IfSome};
-ghost use Rattle.rl_model.specs.Drafts.{number_in};
-ghost use Rattle.rl_model.specs.Refusals.{is_twice};
+ghost use Rattle.rl_drafts.specs.Drafts.{number_in};
+ghost use Rattle.rl_drafts.specs.Refusals.{is_twice};
 
 use rl_base::{DraftBox, DraftTrain, Name, Names};
 

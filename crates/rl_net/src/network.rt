@@ -1,37 +1,42 @@
-ghost use Rattle.std.specs.Prelude.{◌≡◌, ◌<◌, ◌≤◌, length, Some, slice_get, option_map, IsTrue};
+ghost use Rattle.std.specs.Prelude.{◌≡◌, ℕ, ◌≢◌, ◌<◌, ◌≤◌, IfSome, IfNone, length, Some, slice_get, option_map, IsTrue};
+ghost use Rattle.rl_base.specs.declared.limits.TheConstants.{MAX_STEPS};
 ghost use Rattle.rl_base.specs.Name.{is_name};
-ghost use Rattle.rl_model.specs.Network.{IsNetwork, kind_of, start_side, arm_of, segment_at, connects, side_for, steps_of, route_segment, route_box, segment_name, box_name, train_name};
+ghost use Rattle.rl_net.specs.NamedNetwork.{IsNamed};
+ghost use Rattle.rl_model.specs.Network.{IsNetwork, IsSegmentOf, IsBoxOf, IsTrainOf, kind_of, start_side, arm_of, segment_at, connects, side_for, steps_of, route_segment, route_box, segment_name, box_name, train_name};
 
+use crate::named_draft::NameTables;
 use rl_base::{Arm, BoxId, Kind, Layout, SegId, Side, TrainId, joins};
 use rl_model::NetworkPlan;
 use std::marker::Model;
 
-/// A network that was accepted. Contracts see it as its plan, of which `IsNetwork` holds.
+/// A network that was accepted, with its names in order: the name of each number, and the number of each name.
+/// Contracts see it as its plan, of which `IsNetwork` holds.
 #[derive(Debug, Drop)]
 pub struct Network {
     plan: NetworkPlan,
+    names: NameTables,
 }
 
 impl Model for Network {
     ghost use Rattle.rl_model.specs.declared.network.NetworkPlan.{NetworkPlan};
-    ghost use Rattle.rl_model.specs.Network.{IsNetwork};
+    ghost use Rattle.rl_net.specs.NamedNetwork.{IsNamed};
 
     ghost Value = { NetworkPlan };
 
     ghost view = { λ n. n.plan };
 
-    ghost invariant = { λ n. IsNetwork n.plan };
+    ghost invariant = { λ n. IsNamed n.plan n.names };
 }
 
 impl Network {
-    pub(crate) fn from_plan(plan: NetworkPlan) -> Network
-        requires { IsNetwork plan }
+    pub(crate) fn from_plan(plan: NetworkPlan, names: NameTables) -> Network
+        requires { IsNamed plan names }
         ensures { result ≡ plan }
     {
-        Network { plan }
+        Network { plan, names }
     }
 
-    /// How many segments there are, at most 256.
+    /// How many segments there are, at most `MAX_SEGMENTS`.
     pub fn segments(&self) -> u32
         ensures count { result ≡ length self.now.segments }
         ensures network { IsNetwork self.now }
@@ -39,7 +44,7 @@ impl Network {
         self.plan.segments.len() as u32
     }
 
-    /// How many boxes there are, at most 128.
+    /// How many boxes there are, at most `MAX_BOXES`.
     pub fn boxes(&self) -> u32
         ensures count { result ≡ length self.now.boxes }
         ensures network { IsNetwork self.now }
@@ -47,7 +52,7 @@ impl Network {
         self.plan.boxes.len() as u32
     }
 
-    /// How many trains there are, at most 32.
+    /// How many trains there are, at most `MAX_TRAINS`.
     pub fn trains(&self) -> u32
         ensures count { result ≡ length self.now.trains }
         ensures network { IsNetwork self.now }
@@ -69,7 +74,7 @@ impl Network {
 
     /// The two ends of a segment, that at the box with the lower number first.
     pub fn ends(&self, s: SegId) -> ((BoxId, Arm), (BoxId, Arm))
-        requires { s.0 < length self.now.segments }
+        requires there { IsSegmentOf self.now s }
         ensures { option_map (λ g. ((g.low.at, g.low.arm), (g.high.at, g.high.arm))) (slice_get self.now.segments s.0) ≡ Some result }
     {
         let segment = self.plan.segments.at(s.0 as usize);
@@ -80,7 +85,7 @@ impl Network {
     }
 
     pub fn kind(&self, b: BoxId) -> Kind
-        requires { b.0 < length self.now.boxes }
+        requires there { IsBoxOf self.now b }
         ensures { result ≡ kind_of self.now b.0 }
     {
         self.plan.boxes.at(b.0 as usize).kind
@@ -88,7 +93,7 @@ impl Network {
 
     /// The side at which the box stands at the start. A box that is no point stands at left.
     pub fn start_side(&self, b: BoxId) -> Side
-        requires { b.0 < length self.now.boxes }
+        requires there { IsBoxOf self.now b }
         ensures { result ≡ start_side self.now b.0 }
     {
         self.plan.boxes.at(b.0 as usize).side
@@ -96,7 +101,7 @@ impl Network {
 
     /// The segment at an arm of the box, `None` where the box has no such arm.
     pub fn arm(&self, b: BoxId, x: Arm) -> Option<SegId>
-        requires { b.0 < length self.now.boxes }
+        requires there { IsBoxOf self.now b }
         ensures { option_map (λ s. s.0) result ≡ segment_at self.now b.0 x.0 }
     {
         let arms = &self.plan.boxes.at(b.0 as usize).arms;
@@ -109,8 +114,7 @@ impl Network {
 
     /// The arm of the segment at the box, `None` where the segment doesn't end there.
     pub fn arm_of(&self, b: BoxId, s: SegId) -> Option<Arm>
-        requires box_in { b.0 < length self.now.boxes }
-        requires segment_in { s.0 < length self.now.segments }
+        requires there { IsBoxOf self.now b × IsSegmentOf self.now s }
         ensures { option_map (λ x. x.0) result ≡ arm_of self.now s.0 b.0 }
     {
         let segment = self.plan.segments.at(s.0 as usize);
@@ -125,9 +129,7 @@ impl Network {
 
     /// Whether both segments have an arm at the box and the box connects these where it stands at the side.
     pub fn connects(&self, b: BoxId, s: SegId, s2: SegId, side: Side) -> bool
-        requires box_in { b.0 < length self.now.boxes }
-        requires from_in { s.0 < length self.now.segments }
-        requires to_in { s2.0 < length self.now.segments }
+        requires there { IsBoxOf self.now b × IsSegmentOf self.now s × IsSegmentOf self.now s2 }
         ensures { result ≡ connects self.now b.0 s.0 s2.0 side }
     {
         match (self.arm_of(b, s), self.arm_of(b, s2)) {
@@ -139,9 +141,7 @@ impl Network {
     /// The side at which the box connects the segments, left where it does at both, and `None` where it
     /// does at neither.
     pub fn side_for(&self, b: BoxId, s: SegId, s2: SegId) -> Option<Side>
-        requires box_in { b.0 < length self.now.boxes }
-        requires from_in { s.0 < length self.now.segments }
-        requires to_in { s2.0 < length self.now.segments }
+        requires there { IsBoxOf self.now b × IsSegmentOf self.now s × IsSegmentOf self.now s2 }
         ensures { result ≡ side_for self.now b.0 s.0 s2.0 }
     {
         if self.connects(b, s, s2, Side::Left) {
@@ -153,20 +153,20 @@ impl Network {
         }
     }
 
-    /// How many steps the route of the train has, at most 64.
+    /// How many steps the route of the train has, at most `MAX_STEPS`.
     pub fn steps(&self, t: TrainId) -> u32
-        requires { t.0 < length self.now.trains }
+        requires there { IsTrainOf self.now t }
         ensures count { result ≡ steps_of self.now t.0 }
-        ensures few { result ≤ 64 }
+        ensures few { result ≤ MAX_STEPS }
     {
         self.plan.trains.at(t.0 as usize).boxes.len() as u32
     }
 
     /// The segment at place `k` of the route, from 0 to the number of steps.
     pub fn route_seg(&self, t: TrainId, k: u32) -> SegId
-        requires train_in { t.0 < length self.now.trains }
-        requires step_in { k ≤ steps_of self.now t.0 }
-        ensures there { route_segment self.now t.0 k ≡ Some result.0 }
+        requires there { IsTrainOf self.now t }
+        requires step { k ≤ steps_of self.now t.0 }
+        ensures value { route_segment self.now t.0 k ≡ Some result.0 }
         ensures in_range { result.0 < length self.now.segments }
     {
         *self.plan.trains.at(t.0 as usize).segments.at(k as usize)
@@ -174,16 +174,16 @@ impl Network {
 
     /// The box that step `k` of the route passes.
     pub fn route_box(&self, t: TrainId, k: u32) -> BoxId
-        requires train_in { t.0 < length self.now.trains }
-        requires step_in { k < steps_of self.now t.0 }
-        ensures there { route_box self.now t.0 k ≡ Some result.0 }
+        requires there { IsTrainOf self.now t }
+        requires step { k < steps_of self.now t.0 }
+        ensures value { route_box self.now t.0 k ≡ Some result.0 }
         ensures in_range { result.0 < length self.now.boxes }
     {
         *self.plan.trains.at(t.0 as usize).boxes.at(k as usize)
     }
 
     pub fn seg_name(&self, s: SegId) -> &[u8]
-        requires { s.0 < length self.now.segments }
+        requires there { IsSegmentOf self.now s }
         ensures name { result.now ≡ segment_name self.now s.0 }
         ensures valid { IsTrue (is_name result.now) }
     {
@@ -191,7 +191,7 @@ impl Network {
     }
 
     pub fn box_name(&self, b: BoxId) -> &[u8]
-        requires { b.0 < length self.now.boxes }
+        requires there { IsBoxOf self.now b }
         ensures name { result.now ≡ box_name self.now b.0 }
         ensures valid { IsTrue (is_name result.now) }
     {
@@ -199,10 +199,43 @@ impl Network {
     }
 
     pub fn train_name(&self, t: TrainId) -> &[u8]
-        requires { t.0 < length self.now.trains }
+        requires there { IsTrainOf self.now t }
         ensures name { result.now ≡ train_name self.now t.0 }
         ensures valid { IsTrue (is_name result.now) }
     {
         self.plan.trains.at(t.0 as usize).name.bytes()
+    }
+
+    /// The segment of that name, `None` exactly where there is none. It takes no memory.
+    pub fn find_seg(&self, name: &[u8]) -> Option<SegId>
+        ensures some { IfSome result (λ s. (s.0 < length self.now.segments) × (segment_name self.now s.0 ≡ name.now)) }
+        ensures none { IfNone result ((s : ℕ) → s < length self.now.segments → segment_name self.now s ≢ name.now) }
+    {
+        match self.names.segments.find(name) {
+            Some(s) => Some(SegId(s as u32)),
+            None => None,
+        }
+    }
+
+    /// The box of that name, `None` exactly where there is none. It takes no memory.
+    pub fn find_box(&self, name: &[u8]) -> Option<BoxId>
+        ensures some { IfSome result (λ b. (b.0 < length self.now.boxes) × (box_name self.now b.0 ≡ name.now)) }
+        ensures none { IfNone result ((b : ℕ) → b < length self.now.boxes → box_name self.now b ≢ name.now) }
+    {
+        match self.names.boxes.find(name) {
+            Some(b) => Some(BoxId(b as u32)),
+            None => None,
+        }
+    }
+
+    /// The train of that name, `None` exactly where there is none. It takes no memory.
+    pub fn find_train(&self, name: &[u8]) -> Option<TrainId>
+        ensures some { IfSome result (λ t. (t.0 < length self.now.trains) × (train_name self.now t.0 ≡ name.now)) }
+        ensures none { IfNone result ((t : ℕ) → t < length self.now.trains → train_name self.now t ≢ name.now) }
+    {
+        match self.names.trains.find(name) {
+            Some(t) => Some(TrainId(t as u32)),
+            None => None,
+        }
     }
 }

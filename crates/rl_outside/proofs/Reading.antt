@@ -1,3 +1,4 @@
+-- What a loop has read of a file.
 use Rattle.std.proofs.Common.{ℕ, ◌≤◌, List, length, Option}
 use Rattle.std.specs.Io.KnownBytes.{Consumes}
 

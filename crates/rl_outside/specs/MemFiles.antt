@@ -1,3 +1,4 @@
+-- Files in memory, and how a fetch of one ends.
 use Rattle.std.specs.Prelude.{ℕ, nat_le, List, length, find, Option, Some, None, option_map, Result, Ok, Err, if◌then◌else◌}
 use Rattle.std.specs.Str.{bytes_eq}
 use Rattle.rl_outside.specs.Numbering.{fails_at}

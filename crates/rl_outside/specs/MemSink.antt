@@ -1,3 +1,4 @@
+-- A sink in memory, and what a put makes of it.
 use Rattle.std.specs.Prelude.{ℕ, ◌+◌, ◌-◌, ◌^◌, min, List, ◌++◌, length, if◌then◌else◌}
 use Rattle.rl_outside.specs.Numbering.{number_after, fails_at}
 

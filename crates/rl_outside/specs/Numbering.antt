@@ -1,3 +1,4 @@
+-- The numbers of calls, and which of them fail.
 use Rattle.std.specs.Prelude.{ℕ, ◌+◌, ◌-◌, ◌^◌, min, ◌==◌, Bool, List}
 use Rattle.std.specs.List.{list_any}
 

@@ -1,13 +1,13 @@
-ghost use Rattle.std.specs.Prelude.{◌≡◌, ℕ, ◌≤◌, ◌<◌, ◌+◌, List, [], ◌++◌, ◌≢◌, None, length, vec_len, true, false, IfOk, OnOk, IfSome, IsErrOf};
+ghost use Rattle.std.specs.Prelude.{◌≡◌, ℕ, ◌≤◌, ◌<◌, ◌+◌, List, [], ◌++◌, ◌≢◌, None, length, vec_len, true, false, IfOk, OnOk, OnErr, Err, IfSome, IsErrOf};
 ghost use Rattle.std.specs.Io.KnownBytes.{Consumes, IsAtEnd};
-ghost use Rattle.rl_outside.specs.Causes.{Rose, times_in, failed_after};
+ghost use Rattle.rl_outside.specs.Causes.{CountsFetch, times_in, failed_after, read_by};
 
-use crate::failed::{FailedNames, note};
+use crate::failed::{FailedNames, noted};
 use crate::files::{Fetch, Files};
 use std::alloc::Global;
-use std::fs;
 use std::io::Read;
 use std::marker::Model;
+use std::{fs, io};
 
 /// How many bytes one read asks for at most.
 const PIECE: usize = 4096;
@@ -51,6 +51,17 @@ impl<'a, R: std::rt::Files> DirFiles<'a, R> {
     }
 }
 
+/// What the answer to a read is, where at most `room` bytes may still come.
+fn came(answer: io::Result<usize>, room: usize) -> Result<usize, Fetch>
+    ensures { result ≡ read_by room answer }
+{
+    match answer {
+        Ok(n) if n <= room => Ok(n),
+        Ok(_) => Err(Fetch::TooLong),
+        Err(_) => Err(Fetch::Failed),
+    }
+}
+
 /// Reads once, at most one byte past the limit, and appends what came. Answers whether anything did.
 fn read_piece<F: Read>(file: &mut F, bytes: &mut Vec<u8>, limit: usize) -> Result<bool, Fetch>
     requires { vec_len bytes.old ≤ limit }
@@ -65,12 +76,7 @@ fn read_piece<F: Read>(file: &mut F, bytes: &mut Vec<u8>, limit: usize) -> Resul
     let room = limit - bytes.len();
     let wanted = room.saturating_add(1).min(PIECE);
     let mut buffer = [0u8; PIECE];
-    let Ok(n) = file.read(&mut buffer[..wanted]) else {
-        return Err(Fetch::Failed);
-    };
-    if n > room {
-        return Err(Fetch::TooLong);
-    }
+    let n = came(file.read(&mut buffer[..wanted]), room)?;
     bytes.extend_from_slice(&buffer[..n])?;
     Ok(n > 0)
 }
@@ -89,15 +95,20 @@ fn read_whole<F: Read>(file: &mut F, alloc: Global, limit: usize) -> Result<Vec<
     }
 }
 
-fn read_file<R: std::rt::Files>(
-    rt: &R,
+/// Reads the file that was opened to its end. One that std could not open is a failed fetch.
+fn read_opened<F: Read + Drop>(
+    opened: io::Result<F>,
     alloc: Global,
-    name: &str,
     limit: usize,
 ) -> Result<Vec<u8>, Fetch>
+    ensures unopened { OnErr opened (result ≡ Err Fetch.Failed) }
     ensures within { IfOk result (λ bytes. length bytes.items ≤ limit) }
+    ensures whole { IfOk opened (λ file. IfOk result (λ bytes.
+        IfSome (F.remaining file) (λ there. bytes.items ≡ there))) }
+    ensures too_long { IfOk opened (λ file. IsErrOf result Fetch.TooLong →
+        IfSome (F.remaining file) (λ there. limit < length there)) }
 {
-    match fs::open(rt, name) {
+    match opened {
         Ok(mut file) => read_whole(&mut file, alloc, limit),
         Err(_) => Err(Fetch::Failed),
     }
@@ -112,22 +123,17 @@ impl<R: std::rt::Files> Files for DirFiles<'_, R> {
     fn fetch(&mut self, alloc: Global, name: &str, limit: usize) -> Result<Vec<u8>, Fetch>
         ensures within { IfOk result (λ bytes. length bytes.items ≤ limit) }
         ensures after { self.new ≡ failed_after result self.old name.now }
-        ensures failed { IsErrOf result Fetch.Failed →
-            Rose (times_in self.old name.now) (times_in self.new name.now) }
+        ensures cause { CountsFetch result (times_in self.old name.now) (times_in self.new name.now) }
         ensures others { (n : List ℕ) → n ≢ name.now → times_in self.new n ≡ times_in self.old n }
     {
-        let answer = read_file(self.rt, alloc, name, limit);
-        if let Err(Fetch::Failed) = answer {
-            note(self.alloc, &mut self.failed, name)?;
-        }
-        answer
+        let answer = read_opened(fs::open(self.rt, name), alloc, limit);
+        noted(self.alloc, &mut self.failed, name, answer)
     }
 }
 
 #[cfg(test)]
 mod tests {
     use super::*;
-    use std::io;
 
     /// A file with no end, which counts the bytes that it gave.
     struct Endless {

@@ -1,5 +1,5 @@
 ghost use Rattle.std.specs.Prelude.{◌≡◌, ◌≢◌, ℕ, ◌≤◌, ◌<◌, List, Option, length, IfOk, IfSome, IsErrOf};
-ghost use Rattle.rl_outside.specs.Causes.{Rose};
+ghost use Rattle.rl_outside.specs.Causes.{CountsFetch};
 ghost use Rattle.rl_outside.specs.declared.files.Fetch.TheVariants.{NoMemory as no_memory};
 
 use rl_base::NoMemory;
@@ -42,13 +42,14 @@ pub trait Files {
     fn fetch(&mut self, alloc: Global, name: &str, limit: usize) -> Result<Vec<u8>, Fetch>
         ensures within { IfOk result (λ bytes. length bytes.items ≤ limit) }
         ensures told { IfOk result (λ bytes. IfSome (held self.old name.now) (λ there. bytes.items ≡ there)) }
-        ensures failed { IsErrOf result Fetch.Failed →
-            Rose (faults self.old name.now) (faults self.new name.now) }
         ensures too_long { IsErrOf result Fetch.TooLong →
             IfSome (held self.old name.now) (λ there. limit < length there) }
 
-        // No answer changes a file, and a count never falls. The counts of other names stay.
-        ensures files_stay { (n : List ℕ) → held self.new n ≡ held self.old n }
+        // The name's count rises where the fetch failed, and at nothing else. The counts of other names stay.
+        ensures cause { CountsFetch result (faults self.old name.now) (faults self.new name.now) }
+        ensures others { (n : List ℕ) → n ≢ name.now → faults self.new n ≡ faults self.old n }
         ensures later { (n : List ℕ) → faults self.old n ≤ faults self.new n }
-        ensures others { (n : List ℕ) → n ≢ name.now → faults self.new n ≡ faults self.old n };
+
+        // No answer changes a file.
+        ensures files_stay { (n : List ℕ) → held self.new n ≡ held self.old n };
 }

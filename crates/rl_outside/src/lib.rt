@@ -20,7 +20,7 @@ pub use gate::{Gate, OpenGate};
 pub use mem_files::MemFiles;
 pub use mem_sink::MemSink;
 pub use sink::{Sink, SinkFault, put_all};
-pub use std_sink::StdSink;
+pub use std_sink::{StdSink, WriterSink};
 
 #[cfg(test)]
 mod tests;

@@ -1,11 +1,11 @@
-ghost use Rattle.std.specs.Prelude.{◌≡◌, ◌≢◌, ℕ, List, [], Some, Ok, Err, position, IfOk, IfErr, OnOk, OnErr, IsErrOf};
+ghost use Rattle.std.specs.Prelude.{◌≡◌, ◌≢◌, ℕ, List, [], Some, Ok, Err, position, IfOk, IfErr, OnOk, OnErr};
 ghost use Rattle.std.specs.Option.{option_copied};
 ghost use Rattle.std.specs.Str.{bytes_eq};
-ghost use Rattle.rl_outside.specs.Causes.{Rose, times_in, failed_after};
+ghost use Rattle.rl_outside.specs.Causes.{CountsFetch, times_in, failed_after};
 ghost use Rattle.rl_outside.specs.Numbering.{number_after};
 ghost use Rattle.rl_outside.specs.MemFiles.{bytes_under, answer_of, read_within};
 
-use crate::failed::{FailedNames, note, times_in};
+use crate::failed::{FailedNames, noted, times_in};
 use crate::files::{Fetch, Files};
 use rl_base::{NoMemory, Sequence, Text};
 use std::alloc::Global;
@@ -159,9 +159,8 @@ impl Files for MemFiles {
         ensures ok { IfOk result (λ bytes. answer_of self.old name.now limit ≡ Ok bytes.items) }
         ensures err { IfErr result (λ e. e ≢ Fetch.NoMemory → answer_of self.old name.now limit ≡ Err e) }
 
-        // What follows for the name's count.
-        ensures failed { IsErrOf result Fetch.Failed →
-            Rose (times_in self.old.failed name.now) (times_in self.new.failed name.now) }
+        // What follows for the counts.
+        ensures cause { CountsFetch result (times_in self.old.failed name.now) (times_in self.new.failed name.now) }
         ensures others { (n : List ℕ) → n ≢ name.now → times_in self.new.failed n ≡ times_in self.old.failed n }
         ensures after { self.new ≡ record self.old {
           next = number_after self.old.next;
@@ -170,9 +169,6 @@ impl Files for MemFiles {
     {
         let answer = self.answer(alloc, name, limit);
         self.next = self.next.saturating_add(1);
-        if let Err(Fetch::Failed) = answer {
-            note(alloc, &mut self.failed, name)?;
-        }
-        answer
+        noted(alloc, &mut self.failed, name, answer)
     }
 }

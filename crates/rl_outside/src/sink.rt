@@ -1,6 +1,7 @@
-ghost use Rattle.std.specs.Prelude.{◌≡◌, ℕ, ◌≤◌, ◌<◌, ◌^◌, ◌-◌, List, [], Option, length, take, IfOk, OnOk, OnErr, IsOk};
+ghost use Rattle.std.specs.Prelude.{◌≡◌, ℕ, ◌≤◌, ◌<◌, ◌^◌, ◌-◌, List, [], Option, length, IfOk, OnOk, OnErr, IsOk};
+ghost use Rattle.std.specs.Io.KnownBytes.{Appends, WriteAppends};
 ghost use Rattle.rl_outside.specs.Causes.{RoseOrFull};
-ghost use Rattle.rl_outside.specs.Sink.{grown, GrownByPart};
+ghost use Rattle.rl_outside.specs.Sink.{AppendsPart};
 
 /// The sink took no byte, and its count of faults has risen.
 #[derive(Clone, Copy, Debug, PartialEq, Eq)]
@@ -19,8 +20,10 @@ pub trait Sink {
         requires { 0 < length piece.now }
         ensures at_least_one { IfOk result (λ n. 0 < n) }
         ensures within { IfOk result (λ n. n ≤ length piece.now) }
-        ensures grows { IfOk result (λ n. written self.new ≡ grown (written self.old) (take n piece.now)) }
-        ensures stays { OnErr result (written self.new ≡ written self.old) }
+        ensures bytes { WriteAppends (written self.old) (written self.new) result piece.now }
+
+        // The count rises at a fault, and at nothing else.
+        ensures kept { OnOk result (faults self.new ≡ faults self.old) }
         ensures cause { OnErr result (RoseOrFull (faults self.old) (faults self.new)) }
         ensures later { faults self.old ≤ faults self.new };
 
@@ -30,8 +33,9 @@ pub trait Sink {
 /// Puts the whole text, piece by piece. Where a put fails, the bytes before it were taken and nothing
 /// more is put. An empty text makes no put. Takes no memory of its own.
 pub fn put_all<K: Sink>(out: &mut K, text: &[u8]) -> Result<(), SinkFault>
-    ensures whole { OnOk result (K.written out.new ≡ grown (K.written out.old) text.now) }
-    ensures part { OnErr result (GrownByPart (K.written out.old) (K.written out.new) text.now) }
+    ensures whole { OnOk result (Appends (K.written out.old) (K.written out.new) text.now) }
+    ensures part { OnErr result (AppendsPart (K.written out.old) (K.written out.new) text.now) }
+    ensures kept { OnOk result (K.faults out.new ≡ K.faults out.old) }
     ensures cause { OnErr result (RoseOrFull (K.faults out.old) (K.faults out.new)) }
     ensures later { K.faults out.old ≤ K.faults out.new }
     ensures empty { text.now ≡ [] → IsOk result }

@@ -1,57 +1,77 @@
-ghost use Rattle.std.specs.Prelude.{◌≡◌, ◌+◌, ◌-◌, ◌^◌, ◌<◌, ◌≤◌, None, length, min, IfOk, OnOk, OnErr};
+ghost use Rattle.std.specs.Prelude.{◌≡◌, ◌+◌, ◌-◌, ◌^◌, ◌<◌, ◌≤◌, min, length, IfOk, OnOk, OnErr};
+ghost use Rattle.std.specs.Io.KnownBytes.{WriteAppends};
 ghost use Rattle.std.proofs.Math.Nat.{min-le_right};
+ghost use Rattle.rl_outside.specs.Sink.{taken_by};
 
 use crate::sink::{Sink, SinkFault};
+use std::io;
+use std::io::{Printer, Write};
 use std::marker::Model;
 
-/// The standard output. It tells no bytes. Contracts see it as its count of faults.
-pub struct StdSink<'a, R> {
-    rt: &'a R,
+/// A writer of std as a sink, which tells what the writer is known to hold.
+#[derive(Drop)]
+pub struct WriterSink<W> {
+    to: W,
     faults: u64,
 }
 
-impl<'a, R> Model for StdSink<'a, R> {
-    ghost use Rattle.std.specs.Prelude.{ℕ};
+/// The standard output. It tells no bytes.
+pub type StdSink<'a, R> = WriterSink<Printer<'a, R>>;
 
-    ghost Value = { ℕ };
+impl<W> Model for WriterSink<W> {
+    ghost use Rattle.rl_outside.specs.Sink.{SinkState};
 
-    ghost view = { λ s. s.faults };
+    ghost Value = { SinkState W };
+
+    ghost view = { λ s. record { to = s.to; faults = s.faults } };
 }
 
-impl<R> Drop for StdSink<'_, R> {
-    fn drop(self) {
-        let StdSink { rt: _, faults: _ } = self;
+impl<W> WriterSink<W> {
+    /// No put has failed yet.
+    pub fn over(to: W) -> WriterSink<W>
+        ensures { result ≡ record { to = to; faults = 0 } }
+    {
+        WriterSink { to, faults: 0 }
     }
 }
 
 impl<'a, R: Print> StdSink<'a, R> {
     /// No put has failed yet.
     pub fn new(rt: &'a R) -> StdSink<'a, R>
-        ensures { result ≡ 0 }
+        ensures { result.faults ≡ 0 }
     {
-        StdSink { rt, faults: 0 }
+        WriterSink::over(io::writer(rt))
     }
 }
 
-impl<R: Print> Sink for StdSink<'_, R> {
-    ghost written = { λ _. None };
+/// What the answer to a write is to a sink.
+fn taken(answer: io::Result<usize>) -> Result<usize, SinkFault>
+    ensures { result ≡ taken_by answer }
+{
+    match answer {
+        Ok(n) if n > 0 => Ok(n),
+        _ => Err(SinkFault),
+    }
+}
 
-    ghost faults = { λ count. min count (2 ^ 64 - 1) };
+impl<W: Write> Sink for WriterSink<W> {
+    ghost written = { λ s. W.contents s.to };
 
-    ghost bounded = { λ count. min-le_right count (2 ^ 64 - 1) };
+    ghost faults = { λ s. min s.faults (2 ^ 64 - 1) };
+
+    ghost bounded = { λ s. min-le_right s.faults (2 ^ 64 - 1) };
 
     /// Writes once. A write that takes no byte counts as a fault.
     fn put(&mut self, piece: &[u8]) -> Result<usize, SinkFault>
         ensures within { IfOk result (λ n. (0 < n) × (n ≤ length piece.now)) }
-        ensures after_ok { OnOk result (self.new ≡ self.old) }
-        ensures after_err { OnErr result (self.new ≡ min (self.old + 1) (2 ^ 64 - 1)) }
+        ensures bytes { WriteAppends (W.contents self.old.to) (W.contents self.new.to) result piece.now }
+        ensures after_ok { OnOk result (self.new.faults ≡ self.old.faults) }
+        ensures after_err { OnErr result (self.new.faults ≡ min (self.old.faults + 1) (2 ^ 64 - 1)) }
     {
-        match self.rt.write_some(piece) {
-            Ok(n) if n > 0 => Ok(n),
-            _ => {
-                self.faults = self.faults.saturating_add(1);
-                Err(SinkFault)
-            }
+        let answer = taken(self.to.write(piece));
+        if answer.is_err() {
+            self.faults = self.faults.saturating_add(1);
         }
+        answer
     }
 }

@@ -1,6 +1,7 @@
 use super::*;
 use rl_base::{NodeNo, WordNo};
 use std::fs;
+use std::io::Cursor;
 use std::process::Abort;
 use std::test::Fail;
 
@@ -81,6 +82,7 @@ fn files_of_the_folder_are_fetched(rt: HostRuntime) -> Result<(), Fail> {
     let text = "0123456789".repeat(rt.alloc(), 500)?;
     fs::write(&rt, "long", text.as_str())?;
     fs::write(&rt, "empty", "")?;
+    fs::create_dir(&rt, "folder")?;
     let mut files = DirFiles::new(&rt, rt.alloc());
     fetch_in_order(
         &rt,
@@ -91,9 +93,23 @@ fn files_of_the_folder_are_fetched(rt: HostRuntime) -> Result<(), Fail> {
             ("empty", 0, Ok(b"")),
             ("long", 0, Err(Fetch::TooLong)),
             ("absent", 5000, Err(Fetch::Failed)),
+            ("folder", 5000, Err(Fetch::Failed)),
         ],
     );
     Ok(())
+}
+
+#[test]
+fn a_writer_takes_what_it_can(rt: HostRuntime) {
+    let mut sink = WriterSink::over(Cursor::new([0u8; 4]));
+    let table: [(&[u8], Result<usize, SinkFault>); 3] = [
+        (b"abc", Ok(3)),
+        (b"de", Ok(1)),
+        (b"e", Err(SinkFault)),
+    ];
+    for (piece, want) in table {
+        assert_eq!(rt; sink.put(piece), want, "{piece:?}");
+    }
 }
 
 #[test]

@@ -1,4 +1,3 @@
-pub mod LineWords
 pub mod WordsOf
 pub mod NamedMoves
 pub mod Plain

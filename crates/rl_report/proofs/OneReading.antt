@@ -22,7 +22,8 @@ use Rattle.rl_model.specs.declared.report.Outcome.{Outcome}
 use Rattle.rl_model.specs.declared.report.Report.{Report}
 use Rattle.rl_model.specs.Moves.{IsMoveOf}
 use Rattle.rl_model.specs.Network.{IsNetwork, segment_name, box_name, train_name}
-use Rattle.rl_model.specs.ReportText.{move_words, side_word, fate_word}
+use Rattle.rl_base.specs.Kind.{side_word}
+use Rattle.rl_model.specs.ReportText.{move_words, fate_word}
 use Rattle.rl_report.specs.declared.moves.MoveName.{MoveName}
 use Rattle.rl_report.specs.declared.moves.MoveName.TheVariants as name
 use Rattle.rl_report.specs.MoveNames.{name_word}

@@ -21,7 +21,8 @@ use Rattle.rl_model.specs.declared.report.Fate.{Fate}
 use Rattle.rl_model.specs.declared.report.Fate.TheVariants.{Arrived, Spent, Underway}
 use Rattle.rl_model.specs.declared.report.Outcome.{Outcome}
 use Rattle.rl_model.specs.Network.{IsNetwork, segment_name, box_name, train_name}
-use Rattle.rl_model.specs.ReportText.{move_words, side_word, fate_word}
+use Rattle.rl_base.specs.Kind.{side_word}
+use Rattle.rl_model.specs.ReportText.{move_words, fate_word}
 use Rattle.rl_report.specs.Words.{outcome_words}
 
 -- bytes above the space, and so above LF

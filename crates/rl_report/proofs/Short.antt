@@ -21,7 +21,8 @@ use Rattle.rl_model.specs.declared.report.Outcome.{Outcome}
 use Rattle.rl_model.specs.declared.report.Report.{Report}
 use Rattle.rl_model.specs.Network.{IsNetwork, segment_name, box_name, train_name}
 use Rattle.rl_model.specs.Reports.{IsReportOf}
-use Rattle.rl_model.specs.ReportText.{line_of, move_words, move_line, side_word, fate_word, outcome_line, outcome_lines, report_text}
+use Rattle.rl_base.specs.Kind.{side_word}
+use Rattle.rl_model.specs.ReportText.{line_of, move_words, move_line, fate_word, outcome_line, outcome_lines, report_text}
 use Rattle.rl_report.specs.Words.{IsCount, outcome_words}
 use Rattle.rl_report.specs.Grammar.{IsTextOf, IsLong, most_moves, whole_line}
 use Rattle.rl_report.specs.Reading.{end_line, move_lines, train_lines, front_lines}

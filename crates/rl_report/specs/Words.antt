@@ -1,6 +1,5 @@
--- The words of a line: the same each after a space, and those that are left of it.
-use Rattle.std.specs.Prelude.{ℕ, ◌≤◌, List, [], ◌∷◌, map, codes, decimal, Option}
-use Rattle.std.specs.List.{flat_map}
+-- The words of what is left of a line, and those of the line of a train.
+use Rattle.std.specs.Prelude.{ℕ, ◌≤◌, List, [], ◌∷◌, codes, decimal, Option}
 use Rattle.std.specs.Option.{option_map_or}
 use Rattle.std.specs.Borrow.{Bor}
 use Rattle.rl_text.specs.Words.{words_of}
@@ -8,14 +7,6 @@ use Rattle.rl_model.specs.declared.network.NetworkPlan.{NetworkPlan}
 use Rattle.rl_model.specs.declared.report.Outcome.{Outcome}
 use Rattle.rl_model.specs.Network.{train_name}
 use Rattle.rl_model.specs.ReportText.{fate_word}
-
--- the texts that the references lend
-abbrev pub texts : List (Bor (List ℕ)) → List (List ℕ)
-texts words = map (λ word. word.now) words
-
--- each word after a space
-abbrev pub spaced : List (List ℕ) → List ℕ
-spaced words = flat_map (λ word. 32 ∷ word) words
 
 -- the words of what is left of a line, if anything is
 abbrev pub words_in : Option (Bor (List ℕ)) → List (List ℕ)

@@ -3,9 +3,9 @@ ghost use Rattle.rl_base.specs.declared.ids.SegId.{SegId};
 ghost use Rattle.rl_base.specs.declared.ids.BoxId.{BoxId};
 ghost use Rattle.rl_base.specs.declared.ids.TrainId.{TrainId};
 ghost use Rattle.rl_base.specs.declared.kind.Side.{Side};
-ghost use Rattle.rl_model.specs.Moves.{IsTrainOf, IsSegmentOf, IsBoxOf};
+ghost use Rattle.rl_model.specs.Network.{IsTrainOf, IsSegmentOf, IsBoxOf};
 ghost use Rattle.rl_model.specs.Network.{segment_name, box_name, train_name};
-ghost use Rattle.rl_model.specs.ReportText.{side_word};
+ghost use Rattle.rl_base.specs.Kind.{side_word};
 
 use crate::words::Words;
 use rl_base::{BoxId, SegId, Side, TrainId};

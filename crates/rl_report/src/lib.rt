@@ -6,7 +6,6 @@
 
 mod forms;
 pub mod laws;
-pub mod lines;
 pub mod moves;
 pub mod outcomes;
 pub mod read;

@@ -2,7 +2,7 @@ ghost use Rattle.std.specs.Prelude.{◌≡◌, ◌≢◌, ◌≤◌, ◌∷◌, 
 ghost use Rattle.rl_base.specs.declared.ids.TrainId.{TrainId};
 ghost use Rattle.rl_model.specs.declared.report.Fate.{Fate};
 ghost use Rattle.rl_model.specs.declared.report.Outcome.{Outcome};
-ghost use Rattle.rl_model.specs.Moves.{IsTrainOf};
+ghost use Rattle.rl_model.specs.Network.{IsTrainOf};
 ghost use Rattle.rl_model.specs.ReportText.{fate_word};
 ghost use Rattle.rl_report.specs.Words.{IsCount, outcome_words};
 ghost use Rattle.rl_report.specs.Grammar.{IsOutcomeLine};

@@ -1,24 +1,15 @@
 ghost use Rattle.rl_model.specs.declared.moves.Move.{Move};
 ghost use Rattle.std.specs.Prelude.{◌≡◌, ◌<◌, ◌≤◌, [], ◌∷◌, ◌++◌, IfOk, OnOk, length, flat_map, decimal, slice_get, Some, ℕ};
-ghost use Rattle.rl_model.specs.Moves.{IsMoveOf, IsTrainOf, IsSegmentOf, IsBoxOf};
+ghost use Rattle.rl_model.specs.Network.{IsTrainOf, IsSegmentOf, IsBoxOf};
+ghost use Rattle.rl_model.specs.Moves.{IsMoveOf};
 ghost use Rattle.rl_model.specs.Reports.{IsReportOf};
-ghost use Rattle.rl_model.specs.ReportText.{report_text, move_line, outcome_line, outcome_lines, side_word, fate_word};
+ghost use Rattle.rl_model.specs.ReportText.{report_text, move_line, outcome_line, outcome_lines, fate_word};
 
-use crate::lines::put_line;
-use rl_base::{BoxId, NoMemory, SegId, Side, TrainId};
+use rl_base::{BoxId, NoMemory, SegId, Side, TrainId, side_word};
 use rl_model::{Fate, Move, Outcome, Report};
 use rl_net::Network;
 use rl_text::Out;
 use std::alloc::Global;
-
-fn side_word<'a>(side: Side) -> &'a [u8]
-    ensures { result.now ≡ side_word side }
-{
-    match side {
-        Side::Left => b"left",
-        Side::Right => b"right",
-    }
-}
 
 fn fate_word(fate: Fate) -> &'static [u8]
     ensures { result.now ≡ fate_word fate }
@@ -30,24 +21,32 @@ fn fate_word(fate: Fate) -> &'static [u8]
     }
 }
 
+/// Appends the line of points that settle.
+fn put_settle(out: &mut Out, net: &Network, b: BoxId, side: Side) -> Result<(), NoMemory>
+    requires { IsBoxOf net.now b }
+    ensures { OnOk result (out.new ≡ out.old ++ move_line net.now (Move.Settle b side)) }
+{
+    out.text(b"settle")?;
+    out.word(net.box_name(b))?;
+    out.word(side_word(side))?;
+    out.text(b"\n")
+}
+
 /// Appends the line of a move.
 fn put_move(out: &mut Out, net: &Network, m: Move) -> Result<(), NoMemory>
     requires { IsMoveOf net.now m }
     ensures { OnOk result (out.new ≡ out.old ++ move_line net.now m) }
 {
     match m {
-        Move::Reserve { t, s, b } => put_line(
-            out,
+        Move::Reserve { t, s, b } => out.line(
             b"reserve",
             &[net.train_name(t), net.seg_name(s), net.box_name(b)],
         ),
-        Move::Release { t, s, b } => put_line(
-            out,
+        Move::Release { t, s, b } => out.line(
             b"release",
             &[net.train_name(t), net.seg_name(s), net.box_name(b)],
         ),
-        Move::Lock { t, b, s, s2 } => put_line(
-            out,
+        Move::Lock { t, b, s, s2 } => out.line(
             b"lock",
             &[
                 net.train_name(t),
@@ -56,13 +55,10 @@ fn put_move(out: &mut Out, net: &Network, m: Move) -> Result<(), NoMemory>
                 net.seg_name(s2),
             ],
         ),
-        Move::Unlock { t, b } => { put_line(out, b"unlock", &[net.train_name(t), net.box_name(b)]) }
-        Move::Throw { b } => put_line(out, b"throw", &[net.box_name(b)]),
-        Move::Settle { b, side } => {
-            put_line(out, b"settle", &[net.box_name(b), side_word(side)])
-        }
-        Move::Enter { t, b, s, s2 } => put_line(
-            out,
+        Move::Unlock { t, b } => { out.line(b"unlock", &[net.train_name(t), net.box_name(b)]) }
+        Move::Throw { b } => out.line(b"throw", &[net.box_name(b)]),
+        Move::Settle { b, side } => put_settle(out, net, b, side),
+        Move::Enter { t, b, s, s2 } => out.line(
             b"enter",
             &[
                 net.train_name(t),
@@ -71,9 +67,8 @@ fn put_move(out: &mut Out, net: &Network, m: Move) -> Result<(), NoMemory>
                 net.seg_name(s2),
             ],
         ),
-        Move::Leave { t, s } => put_line(out, b"leave", &[net.train_name(t), net.seg_name(s)]),
-        Move::Refuse { t, s, b, u } => put_line(
-            out,
+        Move::Leave { t, s } => out.line(b"leave", &[net.train_name(t), net.seg_name(s)]),
+        Move::Refuse { t, s, b, u } => out.line(
             b"refuse",
             &[
                 net.train_name(t),
@@ -82,8 +77,7 @@ fn put_move(out: &mut Out, net: &Network, m: Move) -> Result<(), NoMemory>
                 net.train_name(u),
             ],
         ),
-        Move::Bar { t, b, u } => put_line(
-            out,
+        Move::Bar { t, b, u } => out.line(
             b"bar",
             &[net.train_name(t), net.box_name(b), net.train_name(u)],
         ),
@@ -92,24 +86,14 @@ fn put_move(out: &mut Out, net: &Network, m: Move) -> Result<(), NoMemory>
 
 /// Appends the line of a train's outcome.
 fn put_outcome(out: &mut Out, net: &Network, t: TrainId, outcome: Outcome) -> Result<(), NoMemory>
-    requires { IsTrainOf net.now t }
+    requires there { IsTrainOf net.now t }
     ensures { OnOk result (out.new ≡ out.old ++ outcome_line net.now t.0 outcome) }
 {
-    out.text(b"train ")?;
-    out.text(net.train_name(t))?;
-    out.text(b" ")?;
-    out.text(fate_word(outcome.fate))?;
-    put_counts(out, outcome.made, outcome.refused)
-}
-
-/// Appends the two numbers that end the line of an outcome, each after a space.
-fn put_counts(out: &mut Out, made: u32, refused: u32) -> Result<(), NoMemory>
-    ensures { OnOk result (out.new ≡ out.old ++ 32 ∷ decimal made ++ 32 ∷ decimal refused ++ 10 ∷ []) }
-{
-    out.text(b" ")?;
-    out.number(u64::from(made))?;
-    out.text(b" ")?;
-    out.number(u64::from(refused))?;
+    out.text(b"train")?;
+    out.word(net.train_name(t))?;
+    out.word(fate_word(outcome.fate))?;
+    out.count(outcome.made)?;
+    out.count(outcome.refused)?;
     out.text(b"\n")
 }
 
@@ -141,8 +125,8 @@ pub fn report_text(alloc: Global, net: &Network, report: &Report) -> Result<Out,
     ensures { IfOk result (λ out. out ≡ report_text net.now report.now) }
 {
     let mut out = Out::new(alloc);
-    out.text(b"relis report 1\ntries ")?;
-    out.number(u64::from(report.tries))?;
+    out.text(b"relis report 1\ntries")?;
+    out.count(report.tries)?;
     out.text(b"\n")?;
     put_moves(&mut out, net, report.moves.as_slice())?;
     put_outcomes(&mut out, net, report.outcomes.as_slice())?;

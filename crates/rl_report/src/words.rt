@@ -6,7 +6,7 @@ ghost use Rattle.rl_base.specs.declared.ids.TrainId.{TrainId};
 ghost use Rattle.rl_text.specs.Words.{words_of};
 ghost use Rattle.rl_report.specs.Words.{words_in};
 ghost use Rattle.rl_model.specs.Network.{segment_name, box_name, train_name};
-ghost use Rattle.rl_model.specs.Moves.{IsTrainOf, IsSegmentOf, IsBoxOf};
+ghost use Rattle.rl_model.specs.Network.{IsTrainOf, IsSegmentOf, IsBoxOf};
 
 use rl_base::{BoxId, SegId, TrainId};
 use rl_net::Network;

@@ -12,7 +12,7 @@ use Rattle.rl_base.specs.declared.place.Place.TheVariants.{BoxName, TrainName}
 use Rattle.rl_syntax.proofs.Conditions.{or_else, first-append}
 use Rattle.rl_syntax.specs.Condition.{Condition, first, of_list}
 use Rattle.rl_syntax.specs.NameConditions.{no_name, no_names, of_box, of_train, name_conditions}
-use Rattle.rl_syntax.specs.Network.{name_place}
+use Rattle.rl_syntax.specs.DraftReading.{name_place}
 use Rattle.rl_syntax.specs.declared.names.NameList.{NameList}
 use Rattle.rl_syntax.specs.declared.names.NameList.TheVariants.{Segments, Arms, Route}
 
@@ -36,7 +36,8 @@ list_passes : (list : NameList) (ts : List (List ℕ)) → first (no_names list 
 unfolding no_names
 list_passes list ts h = texts_pass (name_place list) 0 ts h
 
-boxes_pass : (i : ℕ) (bs : List DraftBox) → first (of_list of_box i bs) ≡ None → (list_all (λ b. is_name b.name) bs ≡ true) × (list_all (λ b. list_all is_name b.arms) bs ≡ true)
+boxes_pass : (i : ℕ) (bs : List DraftBox) → first (of_list of_box i bs) ≡ None
+    → (list_all (λ b. is_name b.name) bs ≡ true) × (list_all (λ b. list_all is_name b.arms) bs ≡ true)
 unfolding of_box
 boxes_pass i [] h = (refl, refl)
 boxes_pass i (b ∷ bs) h =
@@ -45,7 +46,8 @@ boxes_pass i (b ∷ bs) h =
     let others = boxes_pass (i + 1) bs more in
     (and_from (is_name b.name) _ here others.0, and_from (list_all is_name b.arms) _ (list_passes (Arms i) b.arms arms) others.1)
 
-trains_pass : (i : ℕ) (ts : List DraftTrain) → first (of_list of_train i ts) ≡ None → (list_all (λ t. is_name t.name) ts ≡ true) × (list_all (λ t. list_all is_name t.route) ts ≡ true)
+trains_pass : (i : ℕ) (ts : List DraftTrain) → first (of_list of_train i ts) ≡ None
+    → (list_all (λ t. is_name t.name) ts ≡ true) × (list_all (λ t. list_all is_name t.route) ts ≡ true)
 unfolding of_train
 trains_pass i [] h = (refl, refl)
 trains_pass i (t ∷ ts) h =
@@ -87,7 +89,8 @@ list_none : (list : NameList) (ts : List (List ℕ)) → list_all is_name ts ≡
 unfolding no_names
 list_none list ts h = texts_none (name_place list) 0 ts h
 
-boxes_none : (i : ℕ) (bs : List DraftBox) → list_all (λ b. is_name b.name) bs ≡ true → list_all (λ b. list_all is_name b.arms) bs ≡ true → first (of_list of_box i bs) ≡ None
+boxes_none : (i : ℕ) (bs : List DraftBox) → list_all (λ b. is_name b.name) bs ≡ true → list_all (λ b. list_all is_name b.arms) bs ≡ true
+    → first (of_list of_box i bs) ≡ None
 unfolding of_box
 boxes_none i [] h k = refl
 boxes_none i (b ∷ bs) h k =
@@ -96,7 +99,8 @@ boxes_none i (b ∷ bs) h k =
     nothing_holds (is_name b.name) (BoxName i) _ name
     (in_neither (no_names (Arms i) b.arms) (of_list of_box (i + 1) bs) (list_none (Arms i) b.arms here) (boxes_none (i + 1) bs names more))
 
-trains_none : (i : ℕ) (ts : List DraftTrain) → list_all (λ t. is_name t.name) ts ≡ true → list_all (λ t. list_all is_name t.route) ts ≡ true → first (of_list of_train i ts) ≡ None
+trains_none : (i : ℕ) (ts : List DraftTrain) → list_all (λ t. is_name t.name) ts ≡ true → list_all (λ t. list_all is_name t.route) ts ≡ true
+    → first (of_list of_train i ts) ≡ None
 unfolding of_train
 trains_none i [] h k = refl
 trains_none i (t ∷ ts) h k =

@@ -15,7 +15,8 @@ first-append ((true, p) ∷ cs) ds = refl
 first-append ((false, p) ∷ cs) ds = first-append cs ds
 
 -- the item at i comes next
-pub of_list-drop : {A : Type 0} (f : ℕ → A → List Condition) (i : ℕ) (xs : List A) (x : A) → i < length xs → x ≡ get_or xs i x → first (of_list f i (drop i xs)) ≡ or_else (first (f i x)) (first (of_list f (i + 1) (drop (i + 1) xs)))
+pub of_list-drop : {A : Type 0} (f : ℕ → A → List Condition) (i : ℕ) (xs : List A) (x : A) → i < length xs → x ≡ get_or xs i x
+    → first (of_list f i (drop i xs)) ≡ or_else (first (f i x)) (first (of_list f (i + 1) (drop (i + 1) xs)))
 of_list-drop f i xs x h e = rw (drop_more xs i x h, ← e) (first-append (f i x) (of_list f (i + 1) (drop (i + 1) xs)))
 
 pub ruleset steps = (first-append, of_list-drop)

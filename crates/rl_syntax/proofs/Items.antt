@@ -7,7 +7,8 @@ use Rattle.toml.proofs.Views.{items_view-drop}
 use Rattle.rl_syntax.specs.Reading.{Read, ◌>>=◌, each}
 
 -- the item at i is read next
-pub each-drop : {A : Type 0} (f : ℕ → Data → Read A) (so_far : List A) (vs : List Value) (i : ℕ) (v : Value) → i < length vs → v ≡ get_or vs i v → each f so_far (items_view (drop i vs)) ≡ (f (length so_far) (view v) >>= (λ x. each f (so_far ++ x ∷ []) (items_view (drop (i + 1) vs))))
+pub each-drop : {A : Type 0} (f : ℕ → Data → Read A) (so_far : List A) (vs : List Value) (i : ℕ) (v : Value) → i < length vs → v ≡ get_or vs i v
+    → each f so_far (items_view (drop i vs)) ≡ (f (length so_far) (view v) >>= (λ x. each f (so_far ++ x ∷ []) (items_view (drop (i + 1) vs))))
 each-drop f so_far vs i v h e = rw (items_view-drop vs i v h, ← e)
 
 pub ruleset steps = each-drop

@@ -1,16 +1,20 @@
 -- A reading stops at the place of the first condition that holds.
-use Rattle.std.proofs.Common.{◌≡◌, ℕ, ◌+◌, codes, Bool, true, false, not, cond, List, [], ◌∷◌, ◌++◌, length, Option, Some, None, Ok, Err, option_and_then, refl, ap, sym, ◌∙◌, append_assoc, length-append}
+use Rattle.std.proofs.Common.{◌≡◌, ℕ, ◌+◌, codes, Bool, true, false, not, cond, List, [], ◌∷◌, ◌++◌, length, Option, Some, None, Ok, Err, option_and_then, refl}
+use Rattle.std.proofs.Common.{ap, sym, ◌∙◌, append_assoc, length-append}
 use Rattle.rl_base.specs.declared.place.Place.{Place}
-use Rattle.rl_base.specs.declared.place.Place.TheVariants.{Top, Format, Segments, Boxes, BoxItem, BoxName, BoxKind, BoxArms, BoxSide, Trains, TrainItem, TrainName, TrainRoute}
+use Rattle.rl_base.specs.declared.place.Place.TheVariants.{Top, Format, Segments, Boxes, BoxItem, BoxName, BoxKind, BoxArms, BoxSide, Trains, TrainItem}
+use Rattle.rl_base.specs.declared.place.Place.TheVariants.{TrainName, TrainRoute}
 use Rattle.rl_syntax.specs.declared.names.NameList.{NameList}
 use Rattle.rl_syntax.specs.declared.names.NameList.TheVariants as lists
 use Rattle.rl_syntax.specs.declared.keys.Keys.TheVariants as keys
 use Rattle.rl_syntax.specs.Condition.{Condition, first}
-use Rattle.rl_syntax.specs.KeyConditions.{missing, misfit, items_or_none, items_at, of_items, no_texts, in_table, in_box, in_train, in_boxes, in_trains, key_conditions}
-use Rattle.rl_syntax.specs.Network.{list_place, name_place, name_in, names_of, needed_names, box_of, box_in, boxes_of, train_of, train_in, trains_of, lists_of, draft_of}
+use Rattle.rl_syntax.specs.KeyConditions.{missing, misfit, items_or_none, items_at, of_items, no_texts, in_table, in_box, in_train, in_boxes, in_trains}
+use Rattle.rl_syntax.specs.KeyConditions.{key_conditions}
+use Rattle.rl_syntax.specs.DraftReading.{list_place, name_place, name_in, names_of, needed_names, box_of, box_in, boxes_of, train_of, train_in, trains_of}
+use Rattle.rl_syntax.specs.DraftReading.{lists_of, draft_of}
 use Rattle.rl_syntax.specs.Reading.{Read, ◌>>=◌, needed, optional, each}
 use Rattle.rl_syntax.specs.Table.{has_other_key, has_format_one, table_with, text_at, array_at, optional_array}
-use Rattle.rl_syntax.specs.Values.{kind_named, side_of}
+use Rattle.rl_syntax.specs.Words.{kind_named, side_of}
 use Rattle.rl_syntax.proofs.Conditions.{or_else, first-append}
 use Rattle.toml.specs.Data.{Data, Items, no_items, item, Members, get_member, as_str, as_array}
 
@@ -20,7 +24,8 @@ stop (Ok x) = None
 stop (Err p) = Some p
 
 -- one reading after another
-then_first : {A B : Type 0} (r : Read A) (f : A → Read B) (cs ds : List Condition) → first cs ≡ stop r → ((x : A) → first ds ≡ stop (f x)) → first (cs ++ ds) ≡ stop (r >>= f)
+then_first : {A B : Type 0} (r : Read A) (f : A → Read B) (cs ds : List Condition) → first cs ≡ stop r → ((x : A) → first ds ≡ stop (f x))
+    → first (cs ++ ds) ≡ stop (r >>= f)
 then_first (Ok x) f cs ds here more = first-append cs ds ∙ ap (λ o. or_else o (first ds)) here ∙ more x
 then_first (Err p) f cs ds here more = first-append cs ds ∙ ap (λ o. or_else o (first ds)) here
 
@@ -37,7 +42,8 @@ optional_first p f None = refl
 optional_first p f (Some d) = then_first (needed p (f d)) (λ x. Ok (Some x)) (missing p (f d) ∷ []) [] (needed_first p (f d)) (λ x. refl)
 
 -- the items of an array, each read where its conditions are looked at
-each_first : {A : Type 0} (f : ℕ → Data → Read A) (g : ℕ → Data → List Condition) → ((i : ℕ) (d : Data) → first (g i d) ≡ stop (f i d)) → (so_far : List A) (ds : Items) → first (of_items g (length so_far) ds) ≡ stop (each f so_far ds)
+each_first : {A : Type 0} (f : ℕ → Data → Read A) (g : ℕ → Data → List Condition) → ((i : ℕ) (d : Data) → first (g i d) ≡ stop (f i d))
+    → (so_far : List A) (ds : Items) → first (of_items g (length so_far) ds) ≡ stop (each f so_far ds)
 each_first f g same so_far no_items = refl
 each_first f g same so_far (item d ds) =
     then_first (f (length so_far) d) (λ x. each f (so_far ++ x ∷ []) ds) (g (length so_far) d) (of_items g (length so_far + 1) ds)
@@ -53,11 +59,13 @@ needed_names_first : (list : NameList) (o : Option Items) → first (missing (li
 needed_names_first list None = refl
 needed_names_first list (Some ds) = names_first list ds
 
-in_array_first : {A : Type 0} (p : Place) (f : Items → Read A) (g : Items → List Condition) → ((ds : Items) → first (g ds) ≡ stop (f ds)) → (o : Option Items) → first (missing p o ∷ g (items_or_none o)) ≡ stop (needed p o >>= f)
+in_array_first : {A : Type 0} (p : Place) (f : Items → Read A) (g : Items → List Condition) → ((ds : Items) → first (g ds) ≡ stop (f ds)) → (o : Option Items)
+    → first (missing p o ∷ g (items_or_none o)) ≡ stop (needed p o >>= f)
 in_array_first p f g same None = refl
 in_array_first p f g same (Some ds) = same ds
 
-optional_array_first : {A : Type 0} (p : Place) (f : Items → Read A) (g : Items → List Condition) → ((ds : Items) → first (g ds) ≡ stop (f ds)) → (o : Option Data) → first (misfit p as_array o ∷ g (items_or_none (option_and_then as_array o))) ≡ stop (optional_array p o >>= f)
+optional_array_first : {A : Type 0} (p : Place) (f : Items → Read A) (g : Items → List Condition) → ((ds : Items) → first (g ds) ≡ stop (f ds))
+    → (o : Option Data) → first (misfit p as_array o ∷ g (items_or_none (option_and_then as_array o))) ≡ stop (optional_array p o >>= f)
 optional_array_first p f g same None = same no_items
 optional_array_first p f g same (Some d) = in_array_first p f g same (as_array d)
 
@@ -70,7 +78,8 @@ box_first i m =
     let side = get_member (codes "at") m in
     let at_side = misfit (BoxSide i) side_of side ∷ [] in
     let at_arms = missing (BoxArms i) arms ∷ no_texts (lists.Arms i) (items_or_none arms) in
-    then_first (needed (BoxName i) name) _ (missing (BoxName i) name ∷ []) (missing (BoxKind i) kind ∷ (at_arms ++ at_side)) (needed_first (BoxName i) name) (λ n.
+    then_first (needed (BoxName i) name) _ (missing (BoxName i) name ∷ []) (missing (BoxKind i) kind ∷ (at_arms ++ at_side)) (needed_first (BoxName i) name)
+    (λ n.
     then_first (needed (BoxKind i) kind) _ (missing (BoxKind i) kind ∷ []) (at_arms ++ at_side) (needed_first (BoxKind i) kind) (λ k.
     then_first (needed_names (lists.Arms i) arms) _ at_arms at_side (needed_names_first (lists.Arms i) arms) (λ a.
     then_first (optional (BoxSide i) side_of side) _ at_side [] (optional_first (BoxSide i) side_of side) (λ s. refl))))
@@ -84,17 +93,20 @@ train_first i m =
     then_first (needed (TrainName i) name) _ (missing (TrainName i) name ∷ []) at_route (needed_first (TrainName i) name) (λ n.
     last_first (needed_names (lists.Route i) route) _ at_route (needed_names_first (lists.Route i) route) (λ r. refl))
 
-table_first : {A : Type 0} (p : Place) (f : Members → Read A) (g : Members → List Condition) → ((m : Members) → first (g m) ≡ stop (f m)) → (o : Option Members) → first (in_table p g o) ≡ stop (needed p o >>= f)
+table_first : {A : Type 0} (p : Place) (f : Members → Read A) (g : Members → List Condition) → ((m : Members) → first (g m) ≡ stop (f m)) → (o : Option Members)
+    → first (in_table p g o) ≡ stop (needed p o >>= f)
 table_first p f g same None = refl
 table_first p f g same (Some m) = same m
 
 boxes_first : (ds : Items) → first (in_boxes ds) ≡ stop (boxes_of ds)
 unfolding in_boxes boxes_of
-boxes_first ds = each_first box_in (λ i d. in_table (BoxItem i) (in_box i) (table_with keys.Box d)) (λ i d. table_first (BoxItem i) (box_of i) (in_box i) (box_first i) (table_with keys.Box d)) [] ds
+boxes_first ds = each_first box_in (λ i d. in_table (BoxItem i) (in_box i) (table_with keys.Box d))
+    (λ i d. table_first (BoxItem i) (box_of i) (in_box i) (box_first i) (table_with keys.Box d)) [] ds
 
 trains_first : (ds : Items) → first (in_trains ds) ≡ stop (trains_of ds)
 unfolding in_trains trains_of
-trains_first ds = each_first train_in (λ i d. in_table (TrainItem i) (in_train i) (table_with keys.Train d)) (λ i d. table_first (TrainItem i) (train_of i) (in_train i) (train_first i) (table_with keys.Train d)) [] ds
+trains_first ds = each_first train_in (λ i d. in_table (TrainItem i) (in_train i) (table_with keys.Train d))
+    (λ i d. table_first (TrainItem i) (train_of i) (in_train i) (train_first i) (table_with keys.Train d)) [] ds
 
 -- the three lists of a document
 abbrev at_segments : Members → List Condition

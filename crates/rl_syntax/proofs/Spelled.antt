@@ -1,9 +1,11 @@
 -- What is read from a table stands in it.
-use Rattle.std.proofs.Common.{◌≡◌, ℕ, ◌+◌, codes, Bool, true, false, cond, List, [], ◌∷◌, ◌++◌, length, Option, Some, None, Ok, Err, option_and_then, option_map, refl, ap, sym, ◌∙◌, append_assoc, append-nil, length-append, subst, bytes_eq}
+use Rattle.std.proofs.Common.{◌≡◌, ℕ, ◌+◌, codes, Bool, true, false, cond, List, [], ◌∷◌, ◌++◌, length, Option, Some, None, Ok, Err, option_and_then}
+use Rattle.std.proofs.Common.{option_map, refl, ap, sym, ◌∙◌, append_assoc, append-nil, length-append, subst, bytes_eq}
 use Rattle.std.proofs.lemmas.Slice.Eq.{bytes_eq-Decides}
 use Rattle.rl_base.specs.declared.draft.Draft.{Draft}
 use Rattle.rl_base.specs.declared.draft.DraftBox.{DraftBox}
 use Rattle.rl_base.specs.declared.draft.DraftTrain.{DraftTrain}
+use Rattle.rl_base.specs.Kind.{kind_word, side_word}
 use Rattle.rl_base.specs.declared.kind.Kind.{Kind}
 use Rattle.rl_base.specs.declared.kind.Kind.TheVariants.{Buffer, Joint, Point, Crossing}
 use Rattle.rl_base.specs.declared.kind.Side.{Side}
@@ -14,12 +16,14 @@ use Rattle.rl_syntax.specs.declared.keys.Keys.{Keys}
 use Rattle.rl_syntax.specs.declared.names.NameList.{NameList}
 use Rattle.rl_syntax.specs.declared.names.NameList.TheVariants as lists
 use Rattle.rl_syntax.specs.declared.keys.Keys.TheVariants as keys
-use Rattle.rl_syntax.specs.Network.{list_place, name_place, name_in, names_of, needed_names, box_of, box_in, boxes_of, train_of, train_in, trains_of, lists_of, draft_of}
+use Rattle.rl_syntax.specs.DraftReading.{list_place, name_place, name_in, names_of, needed_names, box_of, box_in, boxes_of, train_of, train_in, trains_of}
+use Rattle.rl_syntax.specs.DraftReading.{lists_of, draft_of}
 use Rattle.rl_syntax.specs.Reading.{Read, ◌>>=◌, needed, optional, each}
-use Rattle.rl_syntax.specs.Spelling.{kind_text, side_text, texts, SaysBox, SaysTrain, SayEach, HasItems, SaysDraft}
+use Rattle.rl_syntax.specs.Spelling.{texts, SaysBox, SaysTrain, SayEach, HasItems, SaysDraft}
 use Rattle.rl_syntax.specs.Table.{has_other_key, has_format_one, known_table, table_with, text_at, array_at, optional_array}
-use Rattle.rl_syntax.specs.Values.{kind_named, side_named, side_of}
-use Rattle.toml.specs.Data.{Data, string, integer, float, boolean, datetime, array, table, Items, no_items, item, Members, get_member, as_str, as_array, as_table}
+use Rattle.rl_syntax.specs.Words.{kind_named, side_named, side_of}
+use Rattle.toml.specs.Data.{Data, string, integer, float, boolean, datetime, array, table, Items, no_items, item, Members, get_member, as_str, as_array}
+use Rattle.toml.specs.Data.{as_table}
 
 -- a reading that goes through gave something at each step
 bind_ok : {A B : Type 0} (r : Read A) (f : A → Read B) (y : B) → (r >>= f) ≡ Ok y → (x : A) × (r ≡ Ok x) × (f x ≡ Ok y)
@@ -69,36 +73,39 @@ array_at_is : (key : List ℕ) (m : Members) (ds : Items) → array_at key m ≡
 array_at_is key m ds h = let (d, there, is) = then_some as_array (get_member key m) ds h in there ∙ ap Some (array_is d ds is)
 
 -- a test of a text picks a word
-picked : {A : Type 0} (text word : List ℕ) (x y : A) (o : Option A) (spell : A → List ℕ) → spell x ≡ word → (o ≡ Some y → text ≡ spell y) → cond (bytes_eq text word) (Some x) o ≡ Some y → text ≡ spell y
+picked : {A : Type 0} (text word : List ℕ) (x y : A) (o : Option A) (spell : A → List ℕ) → spell x ≡ word → (o ≡ Some y → text ≡ spell y)
+    → cond (bytes_eq word text) (Some x) o ≡ Some y → text ≡ spell y
 picked text word x y o spell same more h =
-    by_test (bytes_eq text word) refl h
+    by_test (bytes_eq word text) refl h
   where
-    by_test : (b : Bool) → bytes_eq text word ≡ b → cond b (Some x) o ≡ Some y → text ≡ spell y
-    by_test true e k = (bytes_eq-Decides text word).0 e ∙ sym same ∙ ap spell (let p : x ≡ y = cc in p)
+    by_test : (b : Bool) → bytes_eq word text ≡ b → cond b (Some x) o ≡ Some y → text ≡ spell y
+    by_test true e k = sym ((bytes_eq-Decides word text).0 e) ∙ sym same ∙ ap spell (let p : x ≡ y = cc in p)
     by_test false e k = more k
 
 nothing : {A P : Type 0} (x : A) → None ≡ Some x → P
 nothing x h = cc
 
-kind_is : (text : List ℕ) (kind : Kind) → kind_named text ≡ Some kind → text ≡ kind_text kind
+kind_is : (text : List ℕ) (kind : Kind) → kind_named text ≡ Some kind → text ≡ kind_word kind
+unfolding kind_named
 kind_is text kind =
-    picked text (codes "buffer") Buffer kind _ kind_text refl
-    (picked text (codes "joint") Joint kind _ kind_text refl
-    (picked text (codes "point") Point kind _ kind_text refl
-    (picked text (codes "crossing") Crossing kind None kind_text refl (λ h. nothing kind h))))
+    picked text (codes "buffer") Buffer kind _ kind_word refl
+    (picked text (codes "joint") Joint kind _ kind_word refl
+    (picked text (codes "point") Point kind _ kind_word refl
+    (picked text (codes "crossing") Crossing kind None kind_word refl (λ h. nothing kind h))))
 
-side_is : (text : List ℕ) (side : Side) → side_named text ≡ Some side → text ≡ side_text side
+side_is : (text : List ℕ) (side : Side) → side_named text ≡ Some side → text ≡ side_word side
+unfolding side_named
 side_is text side =
-    picked text (codes "left") Left side _ side_text refl
-    (picked text (codes "right") Right side None side_text refl (λ h. nothing side h))
+    picked text (codes "left") Left side _ side_word refl
+    (picked text (codes "right") Right side None side_word refl (λ h. nothing side h))
 
-side_stands : (p : Place) (o : Option Data) (side : Option Side) → optional p side_of o ≡ Ok side → o ≡ option_map (λ s. string (side_text s)) side
-side_stands p None side h = let e : None ≡ side = cc in ap (option_map (λ s. string (side_text s))) e
+side_stands : (p : Place) (o : Option Data) (side : Option Side) → optional p side_of o ≡ Ok side → o ≡ option_map (λ s. string (side_word s)) side
+side_stands p None side h = let e : None ≡ side = cc in ap (option_map (λ s. string (side_word s))) e
 side_stands p (Some d) side h =
     let (s, found, is) = bind_ok (needed p (side_of d)) (λ x. Ok (Some x)) side h in
     let (t, there, named) = then_some side_named (as_str d) s (needed_ok p (side_of d) s found) in
     let e : Some s ≡ side = cc in
-    ap Some (text_is d t there ∙ ap string (side_is t s named)) ∙ ap (option_map (λ x. string (side_text x))) e
+    ap Some (text_is d t there ∙ ap string (side_is t s named)) ∙ ap (option_map (λ x. string (side_word x))) e
 
 -- the items that were read, one by one
 abbrev EachReads : {A : Type 0} → (ℕ → Data → Read A) → ℕ → Items → List A → Type 0
@@ -107,7 +114,8 @@ EachReads f i no_items (x ∷ xs) = ⊥
 EachReads f i (item d ds) [] = ⊥
 EachReads f i (item d ds) (x ∷ xs) = (f i d ≡ Ok x) × EachReads f (i + 1) ds xs
 
-each_ok : {A : Type 0} (f : ℕ → Data → Read A) (so_far : List A) (ds : Items) (all : List A) → each f so_far ds ≡ Ok all → (xs : List A) × (all ≡ so_far ++ xs) × EachReads f (length so_far) ds xs
+each_ok : {A : Type 0} (f : ℕ → Data → Read A) (so_far : List A) (ds : Items) (all : List A) → each f so_far ds ≡ Ok all
+    → (xs : List A) × (all ≡ so_far ++ xs) × EachReads f (length so_far) ds xs
 each_ok f so_far no_items all h = ([], (let e : all ≡ so_far = cc in e ∙ sym (append-nil so_far)), tt)
 each_ok f so_far (item d ds) all h =
     let (x, read, more) = bind_ok (f (length so_far) d) (λ x. each f (so_far ++ x ∷ []) ds) all h in
@@ -134,7 +142,8 @@ names_stand : (list : NameList) (ds : Items) (ts : List (List ℕ)) → names_of
 unfolding names_of
 names_stand list ds ts h = names_read list 0 ds ts (each_from_none (name_in list) ds ts h)
 
-needed_names_stand : (list : NameList) (key : List ℕ) (m : Members) (ts : List (List ℕ)) → needed_names list (array_at key m) ≡ Ok ts → get_member key m ≡ Some (array (texts ts))
+needed_names_stand : (list : NameList) (key : List ℕ) (m : Members) (ts : List (List ℕ)) → needed_names list (array_at key m) ≡ Ok ts
+    → get_member key m ≡ Some (array (texts ts))
 needed_names_stand list key m ts h =
     let (ds, found, read) = bind_ok (needed (list_place list) (array_at key m)) (names_of list) ts h in
     array_at_is key m ds (needed_ok (list_place list) (array_at key m) ds found) ∙ ap (λ x. Some (array x)) (names_stand list ds ts read)
@@ -142,7 +151,8 @@ needed_names_stand list key m ts h =
 name_stands : (p : Place) (key : List ℕ) (m : Members) (t : List ℕ) → needed p (text_at key m) ≡ Ok t → get_member key m ≡ Some (string t)
 name_stands p key m t h = text_at_is key m t (needed_ok p (text_at key m) t h)
 
-kind_stands : (p : Place) (key : List ℕ) (m : Members) (kind : Kind) → needed p (option_and_then kind_named (text_at key m)) ≡ Ok kind → get_member key m ≡ Some (string (kind_text kind))
+kind_stands : (p : Place) (key : List ℕ) (m : Members) (kind : Kind) → needed p (option_and_then kind_named (text_at key m)) ≡ Ok kind
+    → get_member key m ≡ Some (string (kind_word kind))
 kind_stands p key m kind h =
     let (t, there, named) = then_some kind_named (text_at key m) kind (needed_ok p (option_and_then kind_named (text_at key m)) kind h) in
     text_at_is key m t there ∙ ap (λ x. Some (string x)) (kind_is t kind named)
@@ -184,7 +194,9 @@ known_is which d m h =
     same false n m e = cc
 
 -- each item that was read is a table that says what was read
-each_says : {A : Type 0} (Says : Members → A → Type 0) (f : ℕ → Data → Read A) → ((i : ℕ) (d : Data) (x : A) → f i d ≡ Ok x → (m : Members) × (d ≡ table m) × Says m x) → (i : ℕ) (ds : Items) (xs : List A) → EachReads f i ds xs → SayEach Says ds xs
+each_says : {A : Type 0} (Says : Members → A → Type 0) (f : ℕ → Data → Read A)
+    → ((i : ℕ) (d : Data) (x : A) → f i d ≡ Ok x → (m : Members) × (d ≡ table m) × Says m x) → (i : ℕ) (ds : Items) (xs : List A) → EachReads f i ds xs
+    → SayEach Says ds xs
 each_says Says f one i no_items [] h = tt
 each_says Says f one i no_items (x ∷ xs) h = absurd h
 each_says Says f one i (item d ds) [] h = absurd h
@@ -210,7 +222,8 @@ trains_say ds ts h =
     0 ds ts (each_from_none train_in ds ts h)
 
 -- an array that was read, or was left out
-array_has : {A : Type 0} (p : Place) (f : Items → Read A) (x : A) (Fit : Items → Type 0) → ((ds : Items) → f ds ≡ Ok x → Fit ds) → (o : Option Data) → (optional_array p o >>= f) ≡ Ok x → HasItems Fit o
+array_has : {A : Type 0} (p : Place) (f : Items → Read A) (x : A) (Fit : Items → Type 0) → ((ds : Items) → f ds ≡ Ok x → Fit ds) → (o : Option Data)
+    → (optional_array p o >>= f) ≡ Ok x → HasItems Fit o
 array_has p f x Fit fits None h = fits no_items h
 array_has p f x Fit fits (Some d) h =
     let (ds, found, read) = bind_ok (needed p (as_array d)) f x h in
@@ -225,7 +238,8 @@ lists_say m d h =
     let (trains, trains_ok, made) = bind_ok (optional_array Trains (get_member (codes "train") m) >>= trains_of) _ d after_boxes in
     let is : record { segments = segments; boxes = boxes; trains = trains } ≡ d = cc in
     subst (SaysDraft m) is (record {
-      segments = array_has Segments (names_of lists.Segments) segments _ (λ ds. names_stand lists.Segments ds segments) (get_member (codes "segments") m) segments_ok;
+      segments = array_has Segments (names_of lists.Segments) segments _ (λ ds. names_stand lists.Segments ds segments)
+          (get_member (codes "segments") m) segments_ok;
       boxes = array_has Boxes boxes_of boxes _ (λ ds. boxes_say ds boxes) (get_member (codes "box") m) boxes_ok;
       trains = array_has Trains trains_of trains _ (λ ds. trains_say ds trains) (get_member (codes "train") m) trains_ok;
     })

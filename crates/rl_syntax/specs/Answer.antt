@@ -1,11 +1,12 @@
 -- What is answered to a network text.
 use Rattle.std.specs.Prelude.{ℕ, nat_lt, Option, Some, None, Result, Ok, Err, if◌then◌else◌, List, length}
 use Rattle.rl_base.specs.declared.draft.Draft.{Draft}
+use Rattle.rl_base.specs.declared.limits.TheConstants.{MAX_NETWORK_BYTES}
 use Rattle.rl_base.specs.declared.place.Place.{Place}
 use Rattle.rl_syntax.specs.Condition.{first}
 use Rattle.rl_syntax.specs.Document.{document}
 use Rattle.rl_syntax.specs.NameConditions.{name_conditions}
-use Rattle.rl_syntax.specs.Network.{draft_of}
+use Rattle.rl_syntax.specs.DraftReading.{draft_of}
 use Rattle.rl_syntax.specs.Reading.{Read}
 use Rattle.rl_syntax.specs.declared.refusal.SyntaxRefusal.{SyntaxRefusal}
 use Rattle.rl_syntax.specs.declared.refusal.SyntaxRefusal.TheVariants.{TooLong, NotToml, Key, BadName, NoMemory}
@@ -28,13 +29,9 @@ of_document (Some m) = of_reading (draft_of m)
 
 -- the answer to a text
 unfoldable pub answer_to : List ℕ → Result Draft SyntaxRefusal
-answer_to text = if nat_lt 65536 (length text) then Err TooLong else of_document (document text)
+answer_to text = if nat_lt MAX_NETWORK_BYTES (length text) then Err TooLong else of_document (document text)
 
 -- the fact, unless the answer is that memory ran out
 abbrev pub UnlessMemory : Result Draft SyntaxRefusal → Type 0 → Type 0
-UnlessMemory (Ok d) P = P
-UnlessMemory (Err TooLong) P = P
-UnlessMemory (Err NotToml) P = P
-UnlessMemory (Err (Key p)) P = P
-UnlessMemory (Err (BadName p)) P = P
 UnlessMemory (Err NoMemory) P = Unit {0}
+UnlessMemory _ P = P

@@ -12,11 +12,9 @@ document text = if is_utf8 text then parse_document text else None
 
 -- a parse is refused where there is no document, or memory ran out
 abbrev pub RefusesDocument : SyntaxRefusal → Option Members → Type 0
-RefusesDocument TooLong found = ⊥
 RefusesDocument NotToml found = found ≡ None
-RefusesDocument (Key p) found = ⊥
-RefusesDocument (BadName p) found = ⊥
 RefusesDocument NoMemory found = Unit {0}
+RefusesDocument _ found = ⊥
 
 -- and gives the table of the document, seen by view
 abbrev pub Parses : {X : Type 0} → (X → Members) → Result X SyntaxRefusal → Option Members → Type 0

@@ -1,14 +1,16 @@
 -- Where a key of the document is wrong, missing or has a value of the wrong type, in the order of places.
-use Rattle.std.specs.Prelude.{ℕ, ◌+◌, codes, false, true, not, is_none, Option, Some, None, option_and_then, List, [], ◌∷◌, ◌++◌}
+use Rattle.std.specs.Prelude.{ℕ, ◌+◌, codes, false, true, not, is_none, Option, Some, None, option_and_then, List, []}
+use Rattle.std.specs.Prelude.{◌∷◌, ◌++◌}
 use Rattle.rl_base.specs.declared.place.Place.{Place}
-use Rattle.rl_base.specs.declared.place.Place.TheVariants.{Top, Format, Segments, Boxes, BoxItem, BoxName, BoxKind, BoxArms, BoxSide, Trains, TrainItem, TrainName, TrainRoute}
+use Rattle.rl_base.specs.declared.place.Place.TheVariants.{Top, Format, Segments, Boxes, BoxItem, BoxName, BoxKind}
+use Rattle.rl_base.specs.declared.place.Place.TheVariants.{BoxArms, BoxSide, Trains, TrainItem, TrainName, TrainRoute}
 use Rattle.rl_syntax.specs.declared.names.NameList.{NameList}
 use Rattle.rl_syntax.specs.declared.names.NameList.TheVariants as lists
 use Rattle.rl_syntax.specs.declared.keys.Keys.TheVariants as keys
 use Rattle.rl_syntax.specs.Condition.{Condition}
-use Rattle.rl_syntax.specs.Network.{name_place}
+use Rattle.rl_syntax.specs.DraftReading.{name_place}
 use Rattle.rl_syntax.specs.Table.{has_other_key, has_format_one, table_with, text_at, array_at}
-use Rattle.rl_syntax.specs.Values.{kind_named, side_of}
+use Rattle.rl_syntax.specs.Words.{kind_named, side_of}
 use Rattle.toml.specs.Data.{Data, Items, no_items, item, Members, get_member, as_str, as_array}
 
 -- what must be there isn't

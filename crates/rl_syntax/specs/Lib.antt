@@ -1,11 +1,14 @@
 pub mod Answer
 pub mod Condition
+pub mod Countable
 pub mod Document
+pub mod DraftReading
+pub mod DraftTable
 pub mod KeyConditions
 pub mod Meaning
 pub mod NameConditions
-pub mod Network
 pub mod Reading
 pub mod Spelling
+pub mod SyntaxRefusals
 pub mod Table
-pub mod Values
+pub mod Words

@@ -1,8 +1,9 @@
 -- What each answer says of a network text.
-use Rattle.std.specs.Prelude.{◌≡◌, ℕ, ◌<◌, ◌≤◌, IsUtf8, Some, None, Result, Ok, Err, List, length}
+use Rattle.std.specs.Prelude.{◌≡◌, ℕ, ◌<◌, ◌≤◌, IsUtf8, Some, Result, Ok, Err, List, length}
 use Rattle.rl_base.specs.Draft.{HasNames}
 use Rattle.rl_base.specs.declared.draft.Draft.{Draft}
-use Rattle.rl_syntax.specs.Condition.{first}
+use Rattle.rl_base.specs.declared.limits.TheConstants.{MAX_NETWORK_BYTES}
+use Rattle.rl_syntax.specs.Condition.{NoneHolds, IsFirstPlace}
 use Rattle.rl_syntax.specs.KeyConditions.{key_conditions}
 use Rattle.rl_syntax.specs.NameConditions.{name_conditions}
 use Rattle.rl_syntax.specs.Spelling.{SaysDraft}
@@ -13,20 +14,22 @@ use Rattle.toml.specs.Parse.{parse_document}
 
 -- the text is short enough, and the document of this table
 pub record IsDocument (text : List ℕ) (m : Members) : Type 0 where
-  pub short : length text ≤ 65536
+  pub short : length text ≤ MAX_NETWORK_BYTES
   pub utf8 : IsUtf8 text
   pub parsed : parse_document text ≡ Some m
 
 -- no key of the table is wrong, and it says this draft
 pub record HasDraft (m : Members) (d : Draft) : Type 0 where
-  pub keys : first (key_conditions m) ≡ None
+  pub keys : NoneHolds (key_conditions m)
   pub says : SaysDraft m d
 
--- what an answer says of the text. Nothing in a text makes memory run out
+-- What an answer says of the text; the places are the first at which a key is wrong, and at which a text is no name.
+-- Nothing in a text makes memory run out
 abbrev pub Means : List ℕ → Result Draft SyntaxRefusal → Type 0
 Means text (Ok d) = (m : Members) × IsDocument text m × HasDraft m d × HasNames d
-Means text (Err TooLong) = 65536 < length text
-Means text (Err NotToml) = (length text ≤ 65536) × ((m : Members) → ¬ (IsDocument text m))
-Means text (Err (Key p)) = (m : Members) × IsDocument text m × (first (key_conditions m) ≡ Some p)
-Means text (Err (BadName p)) = (m : Members) × (d : Draft) × IsDocument text m × HasDraft m d × (first (name_conditions d) ≡ Some p)
+Means text (Err TooLong) = MAX_NETWORK_BYTES < length text
+Means text (Err NotToml) = (length text ≤ MAX_NETWORK_BYTES) × ((m : Members) → ¬ (IsDocument text m))
+Means text (Err (Key p)) = (m : Members) × IsDocument text m × IsFirstPlace (key_conditions m) p
+Means text (Err (BadName p)) =
+    (m : Members) × (d : Draft) × IsDocument text m × HasDraft m d × IsFirstPlace (name_conditions d) p
 Means text (Err NoMemory) = ⊥

@@ -1,5 +1,5 @@
 -- Where a text of a draft should be a name and isn't, in the order of places.
-use Rattle.std.specs.Prelude.{◌≡◌, ℕ, not, Option, Some, None, Result, Ok, Err, List, [], ◌∷◌, ◌++◌}
+use Rattle.std.specs.Prelude.{ℕ, not, List, [], ◌∷◌, ◌++◌}
 use Rattle.rl_base.specs.Name.{is_name}
 use Rattle.rl_base.specs.declared.draft.Draft.{Draft}
 use Rattle.rl_base.specs.declared.draft.DraftBox.{DraftBox}
@@ -8,10 +8,8 @@ use Rattle.rl_base.specs.declared.place.Place.{Place}
 use Rattle.rl_base.specs.declared.place.Place.TheVariants.{BoxName, TrainName}
 use Rattle.rl_syntax.specs.declared.names.NameList.{NameList}
 use Rattle.rl_syntax.specs.declared.names.NameList.TheVariants.{Segments, Arms, Route}
-use Rattle.rl_syntax.specs.declared.refusal.SyntaxRefusal.{SyntaxRefusal}
-use Rattle.rl_syntax.specs.declared.refusal.SyntaxRefusal.TheVariants.{TooLong, NotToml, Key, BadName, NoMemory}
 use Rattle.rl_syntax.specs.Condition.{Condition, of_list}
-use Rattle.rl_syntax.specs.Network.{name_place}
+use Rattle.rl_syntax.specs.DraftReading.{name_place}
 
 -- the text is no name
 abbrev pub no_name : Place → List ℕ → Condition
@@ -32,16 +30,3 @@ of_train i t = no_name (TrainName i) t.name ∷ no_names (Route i) t.route
 -- a text of a draft is no name
 unfoldable pub name_conditions : Draft → List Condition
 name_conditions d = no_names Segments d.segments ++ of_list of_box 0 d.boxes ++ of_list of_train 0 d.trains
-
--- a test of names refuses the first that is none, or memory ran out
-abbrev pub RefusesName : SyntaxRefusal → Option Place → Type 0
-RefusesName TooLong place = ⊥
-RefusesName NotToml place = ⊥
-RefusesName (Key p) place = ⊥
-RefusesName (BadName p) place = place ≡ Some p
-RefusesName NoMemory place = Unit {0}
-
--- and passes where there is no such place
-abbrev pub Tests : Result (Unit {0}) SyntaxRefusal → Option Place → Type 0
-Tests (Ok done) place = place ≡ None
-Tests (Err refusal) place = RefusesName refusal place

@@ -31,18 +31,11 @@ each f so_far (item d ds) = f (length so_far) d >>= (λ x. each f (so_far ++ x �
 
 -- the refusal says where the reading stops, or that memory ran out
 abbrev pub StopsAt : {A : Type 0} → SyntaxRefusal → Read A → Type 0
-StopsAt TooLong read = ⊥
-StopsAt NotToml read = ⊥
 StopsAt (Key p) read = read ≡ Err p
-StopsAt (BadName p) read = ⊥
 StopsAt NoMemory read = Unit {0}
+StopsAt _ read = ⊥
 
 -- what the code answers is what the reading gives, unless memory ran out
 abbrev pub Reads : {A : Type 0} → Result A SyntaxRefusal → Read A → Type 0
 Reads (Ok x) read = read ≡ Ok x
 Reads (Err e) read = StopsAt e read
-
--- the same, where the code lends what contracts see by view
-abbrev pub Lends : {X A : Type 0} → (X → A) → Result X SyntaxRefusal → Read A → Type 0
-Lends view (Ok x) read = read ≡ Ok (view x)
-Lends view (Err e) read = StopsAt e read

@@ -3,22 +3,8 @@ use Rattle.std.specs.Prelude.{◌≡◌, ℕ, codes, Option, Some, None, option_
 use Rattle.rl_base.specs.declared.draft.Draft.{Draft}
 use Rattle.rl_base.specs.declared.draft.DraftBox.{DraftBox}
 use Rattle.rl_base.specs.declared.draft.DraftTrain.{DraftTrain}
-use Rattle.rl_base.specs.declared.kind.Kind.{Kind}
-use Rattle.rl_base.specs.declared.kind.Kind.TheVariants.{Buffer, Joint, Point, Crossing}
-use Rattle.rl_base.specs.declared.kind.Side.{Side}
-use Rattle.rl_base.specs.declared.kind.Side.TheVariants.{Left, Right}
+use Rattle.rl_base.specs.Kind.{kind_word, side_word}
 use Rattle.toml.specs.Data.{Data, string, array, table, Items, no_items, item, Members, get_member}
-
--- the text of a kind, and of a side
-abbrev pub kind_text : Kind → List ℕ
-kind_text Buffer = codes "buffer"
-kind_text Joint = codes "joint"
-kind_text Point = codes "point"
-kind_text Crossing = codes "crossing"
-
-abbrev pub side_text : Side → List ℕ
-side_text Left = codes "left"
-side_text Right = codes "right"
 
 -- the items of an array of texts
 abbrev pub texts : List (List ℕ) → Items
@@ -28,9 +14,9 @@ texts (t ∷ ts) = item (string t) (texts ts)
 -- the table says this box
 pub record SaysBox (m : Members) (b : DraftBox) : Type 0 where
   pub name : get_member (codes "name") m ≡ Some (string b.name)
-  pub kind : get_member (codes "kind") m ≡ Some (string (kind_text b.kind))
+  pub kind : get_member (codes "kind") m ≡ Some (string (kind_word b.kind))
   pub arms : get_member (codes "arms") m ≡ Some (array (texts b.arms))
-  pub at : get_member (codes "at") m ≡ option_map (λ side. string (side_text side)) b.at
+  pub at : get_member (codes "at") m ≡ option_map (λ side. string (side_word side)) b.at
 
 -- the table says this train
 pub record SaysTrain (m : Members) (t : DraftTrain) : Type 0 where

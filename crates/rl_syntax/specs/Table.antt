@@ -1,8 +1,10 @@
 -- What is looked up in a table of the document.
-use Rattle.std.specs.Prelude.{ℕ, ℤ, pos, codes, Bool, false, not, ◌||◌, Option, Some, None, option_and_then, Ok, List, [], ◌∷◌, if◌then◌else◌, bytes_eq}
+use Rattle.std.specs.Prelude.{ℕ, ℤ, pos, codes, Bool, false, not, ◌||◌, Option, Some, None, option_and_then, Ok, List}
+use Rattle.std.specs.Prelude.{[], ◌∷◌, if◌then◌else◌, bytes_eq}
 use Rattle.std.specs.List.{list_any}
 use Rattle.std.specs.Ordering.{int_eq}
-use Rattle.toml.specs.Data.{Data, Items, no_items, Members, no_members, member, get_member, as_str, as_integer, as_array, as_table}
+use Rattle.toml.specs.Data.{Data, Items, no_items, Members, no_members, member, get_member, as_str, as_integer}
+use Rattle.toml.specs.Data.{as_array, as_table}
 use Rattle.rl_base.specs.declared.place.Place.{Place}
 use Rattle.rl_syntax.specs.Reading.{Read, needed}
 use Rattle.rl_syntax.specs.declared.keys.Keys.{Keys}

@@ -1,6 +1,7 @@
-ghost use Rattle.std.specs.Prelude.{◌≡◌, IfOk, IfErr, option_map};
+ghost use Rattle.std.specs.Prelude.{◌≡◌, ◌<◌, ◌^◌, ◌↔◌, IsTrue, IfOk, length, option_map};
 ghost use Rattle.toml.specs.View.{items_view};
-ghost use Rattle.rl_syntax.specs.Network.{list_place, name_place, names_of, needed_names};
+ghost use Rattle.rl_syntax.specs.Countable.{IsCountable};
+ghost use Rattle.rl_syntax.specs.DraftReading.{list_place, name_place, names_of, needed_names};
 ghost use Rattle.rl_syntax.specs.Reading.{Reads, needed};
 
 use crate::refusal::SyntaxRefusal;
@@ -40,16 +41,12 @@ impl NameList {
     }
 }
 
-/// The number of an item, as places have it. A list of 2 ^ 32 items or more is answered as want of
-/// memory; no text that is short enough has one.
-pub(crate) fn number(i: usize) -> Result<u32, SyntaxRefusal>
-    ensures ok { IfOk result (λ n. n ≡ i) }
-    ensures err { IfErr result (λ e. e ≡ SyntaxRefusal.NoMemory) }
+/// Whether places can number the items of a list. No text that is short enough has a list of 2 ^ 32 items
+/// or more; one that had would be answered as want of memory.
+pub(crate) fn is_countable(items: &[Value]) -> bool
+    ensures { IsTrue result ↔ IsCountable items.now }
 {
-    match u32::try_from(i) {
-        Ok(n) => Ok(n),
-        Err(_) => Err(SyntaxRefusal::NoMemory),
-    }
+    items.len() < 1 << 32
 }
 
 /// The name that stands at a place, where a text does.
@@ -67,17 +64,21 @@ pub(crate) fn name_at(
 }
 
 /// The names of an array, in order.
-#[tactic(auto, unfolding(crate::specs::Network::names_of), using(crate::proofs::Items::steps))]
+#[tactic(auto, unfolding(crate::specs::DraftReading::names_of), using(crate::proofs::Items::steps))]
 pub(crate) fn names_of(
     alloc: Global,
     list: NameList,
     items: &[Value],
 ) -> Result<Names, SyntaxRefusal>
-    ensures { Reads result (names_of list (items_view items.now)) }
+    ensures reads { Reads result (names_of list (items_view items.now)) }
+    ensures countable { IfOk result IsCountable }
 {
+    if !is_countable(items) {
+        return Err(SyntaxRefusal::NoMemory);
+    }
     let mut names = Names::new(alloc);
     for (j, item) in items.iter().enumerate() {
-        let place = list.place_of(number(j)?);
+        let place = list.place_of(j as u32);
         names.push(name_at(alloc, place, item.as_str())?)?;
     }
     Ok(names)
@@ -89,7 +90,8 @@ pub(crate) fn needed_names(
     list: NameList,
     items: Option<&[Value]>,
 ) -> Result<Names, SyntaxRefusal>
-    ensures { Reads result (needed_names list (option_map (λ s. items_view s.now) items.entry)) }
+    ensures reads { Reads result (needed_names list (option_map (λ s. items_view s.now) items.entry)) }
+    ensures countable { IfOk result IsCountable }
 {
     match items {
         Some(items) => names_of(alloc, list, items),

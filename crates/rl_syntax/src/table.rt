@@ -1,11 +1,10 @@
 ghost use Rattle.std.specs.Prelude.{◌≡◌, option_map, option_and_then};
+ghost use Rattle.std.specs.Result.{result_map_both};
 ghost use Rattle.toml.specs.Data.{get_member, as_array};
 ghost use Rattle.toml.specs.View.{view, table_view, items_view};
-ghost use Rattle.rl_syntax.specs.Reading.{Lends};
 ghost use Rattle.rl_syntax.specs.Table.{table_with, text_at, array_at, optional_array, has_format_one};
 
 use crate::keys::{Keys, has_other_key};
-use crate::refusal::SyntaxRefusal;
 use rl_base::Place;
 use toml::{Table, Value};
 
@@ -50,12 +49,13 @@ pub(crate) fn array_at<'a>(table: &'a Table, key: &str) -> Option<&'a [Value]>
 pub(crate) fn optional_array<'a>(
     place: Place,
     value: Option<&'a Value>,
-) -> Result<&'a [Value], SyntaxRefusal>
-    ensures { Lends (λ s. items_view s.now) result (optional_array place (option_map (λ v. view v.now) value.entry)) }
+) -> Result<&'a [Value], Place>
+    ensures { result_map_both (λ s. items_view s.now) (λ p. p) result
+        ≡ optional_array place (option_map (λ v. view v.now) value.entry) }
 {
     match value {
         None => Ok(&[]),
-        Some(value) => array_of(value).ok_or(SyntaxRefusal::Key(place)),
+        Some(value) => array_of(value).ok_or(place),
     }
 }
 

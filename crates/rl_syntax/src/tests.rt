@@ -1,5 +1,5 @@
-use crate::{SyntaxRefusal, read_draft};
-use rl_base::{DraftBox, Kind, Name, Names, Place, Side};
+use crate::{SyntaxRefusal, read_draft, write_draft};
+use rl_base::{Draft, DraftBox, Kind, Name, Names, Place, Side};
 use std::alloc::Global;
 use std::test::Fail;
 
@@ -65,20 +65,54 @@ fn reads_networks(rt: HostRuntime) -> Result<(), Fail> {
     assert!(rt; is_named(&draft.trains.at(0).name, "T1"));
     assert!(rt; are_named(&draft.trains.at(0).route, &["A", "J1", "B"]));
 
-    let points = r#"format = 1
-box = [{ name = "P", kind = "point", arms = [], at = "right" }, { name = "X", kind = "crossing", arms = [], at = "left" }]"#;
-    let draft = read_draft(rt.alloc(), points.as_bytes())?;
-    assert_eq!(rt; draft.boxes.len(), 2);
-    assert!(rt; is_box(draft.boxes.at(0), "P", Kind::Point, &[], Some(Side::Right)));
-    assert!(rt;
-        is_box(
-            draft.boxes.at(1),
-            "X",
-            Kind::Crossing,
-            &[],
-            Some(Side::Left)
+    Ok(())
+}
+
+const ALL_KINDS: &str = r#"format = 1
+segments = ["A", "B_1", "C-2"]
+box = [
+  { name = "W", kind = "buffer", arms = ["A"] },
+  { name = "J", kind = "joint", arms = ["B_1", "C-2"] },
+  { name = "P", kind = "point", arms = ["A", "B_1", "C-2"], at = "right" },
+  { name = "X", kind = "crossing", arms = [], at = "left" },
+]
+train = [{ name = "T", route = ["A", "P", "B_1"] }, { name = "U", route = [] }]
+"#;
+
+/// Whether the draft is the one of `ALL_KINDS`.
+fn has_all_kinds(draft: &Draft) -> bool {
+    let boxes = draft.boxes.as_slice();
+    let trains = draft.trains.as_slice();
+    are_named(&draft.segments, &["A", "B_1", "C-2"])
+        && boxes.len() == 4
+        && is_box(&boxes[0], "W", Kind::Buffer, &["A"], None)
+        && is_box(&boxes[1], "J", Kind::Joint, &["B_1", "C-2"], None)
+        && is_box(
+            &boxes[2],
+            "P",
+            Kind::Point,
+            &["A", "B_1", "C-2"],
+            Some(Side::Right),
         )
-    );
+        && is_box(&boxes[3], "X", Kind::Crossing, &[], Some(Side::Left))
+        && trains.len() == 2
+        && is_named(&trains[0].name, "T")
+        && are_named(&trains[0].route, &["A", "P", "B_1"])
+        && is_named(&trains[1].name, "U")
+        && are_named(&trains[1].route, &[])
+}
+
+#[test]
+fn writes_what_it_reads(rt: HostRuntime) -> Result<(), Fail> {
+    let draft = read_draft(rt.alloc(), ALL_KINDS.as_bytes())?;
+    assert!(rt; has_all_kinds(&draft));
+    let text = write_draft(rt.alloc(), &draft).ok().ok_or("written")?;
+    assert!(rt; has_all_kinds(&read_draft(rt.alloc(), text.bytes())?));
+
+    let empty = read_draft(rt.alloc(), b"format = 1")?;
+    let text = write_draft(rt.alloc(), &empty).ok().ok_or("written")?;
+    let again = read_draft(rt.alloc(), text.bytes())?;
+    assert!(rt; again.segments.is_empty() && again.boxes.is_empty() && again.trains.is_empty());
     Ok(())
 }
 

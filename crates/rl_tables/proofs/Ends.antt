@@ -1,6 +1,7 @@
 -- The ends of a segment of a network: each is an arm of a box that names the segment, and they are at different boxes.
-use Rattle.std.proofs.Common.{◌≡◌, ℕ, ◌<◌, ◌≢◌, ◌⊎◌, true, length, slice_get, Option, Some, None, refl, sym, ◌∙◌, subst, ⊎_elim, arith}
+use Rattle.std.proofs.Common.{◌≡◌, ℕ, ◌<◌, ◌≢◌, ◌⊎◌, inl, inr, true, length, slice_get, Option, Some, None, refl, sym, ap, ◌∙◌, subst, ⊎_elim, arith}
 use Rattle.std.specs.Prelude.{is_some, option_map}
+use Rattle.std.proofs.lemmas.Bool.{cases_eq}
 use Rattle.std.proofs.lemmas.Bool.Decides.{nat_tests}
 use Rattle.std.proofs.lemmas.Option.{same_Some, option_and_then_some, slice_get_within}
 use Rattle.rl_base.specs.declared.ids.BoxId.{BoxId}
@@ -76,3 +77,28 @@ ends_given net s ends network h = from (slice_get net.segments s) refl h
     from (Some g) is e =
         let same = same_Some ((g.low.at, g.low.arm), (g.high.at, g.high.arm)) ends e in
         subst (λ (p : (BoxId × Arm) × (BoxId × Arm)). AreEnds net s p.0.0.0 p.0.1.0 p.1.0.0 p.1.1.0) same (are_ends net s g network is)
+
+-- a segment is at one of its two ends
+at_end : (net : NetworkPlan) (s b x : ℕ) (g : Segment) → slice_get net.segments s ≡ Some g → arm_of net s b ≡ Some x → (g.low.at.0 ≡ b) ⊎ (g.high.at.0 ≡ b)
+at_end net s b x g found at = ⊎_elim (λ low. inl low.0) (λ high. inr high.0) (which_end g b x (rw found at at))
+
+-- three boxes are not at two places
+no_third : (low high b c d : ℕ) → (low ≡ b) ⊎ (high ≡ b) → (low ≡ c) ⊎ (high ≡ c) → (low ≡ d) ⊎ (high ≡ d) → c ≢ b → d ≢ b → d ≢ c → ⊥
+no_third low high b c d hb hc hd cb db dc = grind arith
+
+-- a segment with arms at two boxes has none at a third
+pub only_two : (net : NetworkPlan) (s b x c y d z : ℕ) → arm_of net s b ≡ Some x → arm_of net s c ≡ Some y → c ≢ b → arm_of net s d ≡ Some z → ((d ≡ b) × (z ≡ x)) ⊎ ((d ≡ c) × (z ≡ y))
+only_two net s b x c y d z at_b at_c apart at_d =
+    option_and_then_some (arm_at b) (slice_get net.segments s) x at_b
+    (λ g found here.
+    let end_b = at_end net s b x g found at_b in
+    let end_c = at_end net s c y g found at_c in
+    let end_d = at_end net s d z g found at_d in
+    ⊎_elim
+    (λ same. inl (same, same_Some z x (sym at_d ∙ ap (arm_of net s) same ∙ at_b)))
+    (λ other.
+    ⊎_elim
+    (λ same. inr (same, same_Some z y (sym at_d ∙ ap (arm_of net s) same ∙ at_c)))
+    (λ third. absurd (no_third g.low.at.0 g.high.at.0 b c d end_b end_c end_d apart other third))
+    (cases_eq d c))
+    (cases_eq d b))

@@ -1,8 +1,8 @@
 -- The tables that were worked out by hand are those of the network.
 use Rattle.std.proofs.Common.{◌≡◌, ℕ, zero, suc, [], ◌∷◌, slice_get, Some, refl, subst, arith, codes}
 use Rattle.rl_base.specs.declared.kind.Side.TheVariants.{Right}
-use Rattle.rl_model.specs.Drafts.{network_of}
-use Rattle.rl_model.specs.Examples.{one_train, fork}
+use Rattle.rl_drafts.specs.Drafts.{network_of}
+use Rattle.rl_drafts.specs.Examples.{one_train, fork}
 use Rattle.rl_tables.specs.Tables.{segment_number, IsListOf, IsBoxTable, IsStepRow, IsTrainTable, AreTablesOf}
 use Rattle.rl_tables.specs.Examples.{west, joint, east, only_step, only_train, one_train_tables, point}
 use Rattle.rl_model.specs.Network.{segment_at}

@@ -1,5 +1,5 @@
 -- The tables of a network are a line.
-use Rattle.std.proofs.Common.{◌≡◌, ℕ, ◌+◌, zero, suc, ◌<◌, true, subst, List, [], ◌∷◌, length, slice_get, Option, Some, None, option_and_then, refl, sym, ap, ◌∙◌, arith}
+use Rattle.std.proofs.Common.{◌≡◌, ℕ, ◌+◌, zero, suc, ◌<◌, ◌≢◌, true, subst, List, [], ◌∷◌, length, slice_get, Option, Some, None, option_and_then, refl, sym, ap, ◌∙◌, arith}
 use Rattle.std.specs.Prelude.{is_some, option_map, nat_lt}
 use Rattle.std.specs.Option.{option_map_or}
 use Rattle.std.proofs.lemmas.Bool.{le-ltb, lt-ltb}
@@ -19,9 +19,9 @@ use Rattle.rl_tables.specs.declared.table.StepRow.{StepRow}
 use Rattle.rl_tables.specs.declared.table.TrainTable.{TrainTable}
 use Rattle.rl_tables.specs.declared.table.Tables.{Tables}
 use Rattle.rl_tables.specs.Tables.{segment_in, IsBoxTable, IsStepRow, IsTrainTable, AreTablesOf}
-use Rattle.rl_tables.specs.Kept.{line_kind, line_segment, can_join, IsArm, IsBox, IsRow, IsTrain, IsLine}
+use Rattle.rl_tables.specs.Kept.{line_kind, line_segment, can_join, IsArm, IsOnlyAt, HasEnds, IsBox, IsRow, IsTrain, IsLine}
 use Rattle.rl_tables.proofs.ListsOf.{there}
-use Rattle.rl_tables.proofs.Ends.{end_of}
+use Rattle.rl_tables.proofs.Ends.{end_of, are_ends, only_two}
 use Rattle.rl_tables.proofs.Rows.{few_steps, connected, arms_joined, arms_apart}
 
 -- a list has an item at each place below its length
@@ -80,6 +80,36 @@ is_arm n tables b x s network are at =
       segment = same_segment n tables b x are end.box ∙ end.names;
     }
 
+-- an arm of the tables is the arm of its segment at the box
+arm_named : (n : NetworkPlan) (tables : Tables) (d z s : ℕ) → IsNetwork n → AreTablesOf n tables → IsArm tables d z s → arm_of n s d ≡ Some z
+arm_named n tables d z s network are a =
+    let count = are.boxes.length_is in
+    let within : d < length n.boxes = let box = a.box in omega arith in
+    let found = there n.boxes d within in
+    (network.boxes d found.0 found.1).segments z s (sym (same_segment n tables d z are within) ∙ a.segment)
+
+-- a segment with arms at two boxes is at no other arm
+only_at : (n : NetworkPlan) (tables : Tables) (s b x c y : ℕ) → IsNetwork n → AreTablesOf n tables → arm_of n s b ≡ Some x → arm_of n s c ≡ Some y → c ≢ b → IsOnlyAt tables s b x c y
+only_at n tables s b x c y network are at_b at_c apart = λ d z a. only_two n s b x c y d z at_b at_c apart (arm_named n tables d z s network are a)
+
+-- a segment of the network has two ends
+has_ends : (n : NetworkPlan) (tables : Tables) (s : ℕ) → IsNetwork n → AreTablesOf n tables → s < length n.segments → HasEnds tables s
+has_ends n tables s network are within =
+    let found = there n.segments s within in
+    let g = found.0 in
+    let ends = are_ends n s g network found.1 in
+    let apart : g.high.at.0 ≢ g.low.at.0 = λ e. ends.apart (sym e) in
+    record {
+      b = g.low.at.0;
+      x = g.low.arm.0;
+      c = g.high.at.0;
+      y = g.high.arm.0;
+      one = is_arm n tables g.low.at.0 g.low.arm.0 s network are ends.at_low;
+      other = is_arm n tables g.high.at.0 g.high.arm.0 s network are ends.at_high;
+      apart = apart;
+      only = only_at n tables s g.low.at.0 g.low.arm.0 g.high.at.0 g.high.arm.0 network are ends.at_low ends.at_high apart;
+    }
+
 is_row : (n : NetworkPlan) (tables : Tables) (t k : ℕ) (row : StepRow) → IsNetwork n → AreTablesOf n tables → t < length n.trains → IsStepRow n t k row → IsRow tables row
 is_row n tables t k row network are within is =
     let fits = connected n t k row.s.0 row.b.0 row.s2.0 network within is.step in
@@ -93,9 +123,11 @@ is_row n tables t k row network are within is =
       near = is_arm n tables row.b.0 row.y.0 row.s2.0 network are is.y;
       far = is_arm n tables row.c.0 row.c_arm.0 row.s2.0 network are is.far.there;
       far_apart = is.far.apart;
+      far_only = only_at n tables row.s2.0 row.b.0 row.y.0 row.c.0 row.c_arm.0 network are is.y is.far.there is.far.apart;
       here = is_arm n tables row.b.0 row.x.0 row.s.0 network are is.x;
       back = is_arm n tables row.a.0 row.a_arm.0 row.s.0 network are is.back.there;
       back_apart = is.back.apart;
+      back_only = only_at n tables row.s.0 row.b.0 row.x.0 row.a.0 row.a_arm.0 network are is.x is.back.there is.back.apart;
     }
 
 is_train : (n : NetworkPlan) (tables : Tables) (t : ℕ) (x : TrainTable) → IsNetwork n → AreTablesOf n tables → t < length n.trains → IsTrainTable n t x → IsTrain tables t x
@@ -104,6 +136,9 @@ is_train n tables t x network are within is =
       number = is.number;
       short = rw is.rows.length_is (few_steps n t network within);
       rows = λ k row at. is_row n tables t k row network are within (is.rows.each k row at);
+      starts =
+          let found = there n.trains t within in
+          has_ends n tables x.first.0 network are ((network.trains t found.0 found.1).segments 0 x.first.0 is.first);
       first = λ row at. same_Some row.s.0 x.first.0 (sym (is.rows.each 0 row at).step.from ∙ is.first);
       chained = λ k row next at after. same_Some next.s.0 row.s2.0 (sym (is.rows.each (k + 1) next after).step.from ∙ (is.rows.each k row at).step.to);
     }

@@ -5,8 +5,7 @@ use Rattle.std.proofs.lemmas.Option.{option_and_then_some, slice_get_within, sli
 use Rattle.rl_base.specs.declared.ids.SegId.{SegId}
 use Rattle.rl_model.specs.declared.network.SwitchBox.{SwitchBox}
 use Rattle.rl_model.specs.declared.network.NetworkPlan.{NetworkPlan}
-use Rattle.rl_model.specs.Moves.{IsSegmentOf}
-use Rattle.rl_model.specs.Network.{segment_at, IsNetwork}
+use Rattle.rl_model.specs.Network.{IsSegmentOf, segment_at, IsNetwork}
 use Rattle.rl_tables.specs.declared.table.BoxTable.{BoxTable}
 use Rattle.rl_tables.specs.declared.table.StepRow.{StepRow}
 use Rattle.rl_tables.specs.declared.table.TrainTable.{TrainTable}

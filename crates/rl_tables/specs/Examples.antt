@@ -6,7 +6,7 @@ use Rattle.rl_base.specs.declared.kind.Kind.{Kind}
 use Rattle.rl_base.specs.declared.kind.Kind.TheVariants.{Buffer, Joint, Point}
 use Rattle.rl_base.specs.declared.kind.Side.{Side}
 use Rattle.rl_base.specs.declared.kind.Side.TheVariants.{Left, Right}
-use Rattle.rl_model.specs.Examples.{seg, switch_box, train}
+use Rattle.rl_drafts.specs.Examples.{seg, switch_box, train}
 use Rattle.rl_tables.specs.declared.table.BoxTable.{BoxTable}
 use Rattle.rl_tables.specs.declared.table.StepRow.{StepRow}
 use Rattle.rl_tables.specs.declared.table.TrainTable.{TrainTable}

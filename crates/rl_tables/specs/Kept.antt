@@ -1,5 +1,5 @@
 -- What every line keeps, whatever its network: sizes within the limits, and rows that make sense in the tables of the boxes.
-use Rattle.std.specs.Prelude.{◌≡◌, ℕ, ◌+◌, ◌<◌, ◌≤◌, ◌≢◌, nat_lt, Bool, true, ◌||◌, length, slice_get, Option, Some, is_some, option_and_then}
+use Rattle.std.specs.Prelude.{◌≡◌, ℕ, ◌+◌, ◌<◌, ◌≤◌, ◌≢◌, ◌⊎◌, nat_lt, Bool, true, ◌||◌, length, slice_get, Option, Some, is_some, option_and_then}
 use Rattle.std.specs.Option.{option_map_or}
 use Rattle.rl_base.specs.declared.kind.Kind.{Kind}
 use Rattle.rl_base.specs.declared.kind.Kind.TheVariants.{Buffer, Point}
@@ -29,13 +29,29 @@ pub record IsArm (tables : Tables) (b arm s : ℕ) : Type 0 where
   pub among : arm < arms_of (line_kind tables b)
   pub segment : line_segment tables b arm ≡ Some s
 
+-- of the arms of all boxes, segment s is at no other than arm x of box b and arm y of box c
+abbrev pub IsOnlyAt : Tables → (s b x c y : ℕ) → Type 0
+IsOnlyAt tables s b x c y = (d z : ℕ) → IsArm tables d z s → ((d ≡ b) × (z ≡ x)) ⊎ ((d ≡ c) × (z ≡ y))
+
+-- segment s is at two arms, of different boxes, and at no third
+pub record HasEnds (tables : Tables) (s : ℕ) : Type 0 where
+  pub b : ℕ
+  pub x : ℕ
+  pub c : ℕ
+  pub y : ℕ
+  pub one : IsArm tables b x s
+  pub other : IsArm tables c y s
+  pub apart : c ≢ b
+  pub only : IsOnlyAt tables s b x c y
+
 -- the box has a segment at each arm that its kind has, and at no other, and stands at left if it is no point
 pub record IsBox (b : ℕ) (x : BoxTable) : Type 0 where
   pub number : x.number.0 ≡ b
   pub arms : (i : ℕ) → is_some (segment_in x i) ≡ nat_lt i (arms_of x.kind)
   pub side : x.kind ≢ Point → x.side ≡ Left
 
--- the two segments of a step differ, its box can connect them, and their other ends are at other boxes
+-- the two segments of a step differ, its box can connect them, and their other ends are at other boxes. Each of them is
+-- at the two arms that the row names for it, and at no third
 pub record IsRow (tables : Tables) (row : StepRow) : Type 0 where
   pub apart : row.s.0 ≢ row.s2.0
   pub joined : can_join (line_kind tables row.b.0) row.x.0 row.y.0 ≡ true
@@ -43,15 +59,19 @@ pub record IsRow (tables : Tables) (row : StepRow) : Type 0 where
   pub near : IsArm tables row.b.0 row.y.0 row.s2.0
   pub far : IsArm tables row.c.0 row.c_arm.0 row.s2.0
   pub far_apart : row.c.0 ≢ row.b.0
+  pub far_only : IsOnlyAt tables row.s2.0 row.b.0 row.y.0 row.c.0 row.c_arm.0
   pub here : IsArm tables row.b.0 row.x.0 row.s.0
   pub back : IsArm tables row.a.0 row.a_arm.0 row.s.0
   pub back_apart : row.a.0 ≢ row.b.0
+  pub back_only : IsOnlyAt tables row.s.0 row.b.0 row.x.0 row.a.0 row.a_arm.0
 
--- a train has at most 64 steps, the first from its first segment, and each next from where the one before ends
+-- a train has at most 64 steps, the first from its first segment, and each next from where the one before ends. Its
+-- first segment has two ends, also where it makes no step
 pub record IsTrain (tables : Tables) (t : ℕ) (x : TrainTable) : Type 0 where
   pub number : x.number.0 ≡ t
   pub short : length x.rows ≤ 64
   pub rows : (k : ℕ) (row : StepRow) → slice_get x.rows k ≡ Some row → IsRow tables row
+  pub starts : HasEnds tables x.first.0
   pub first : (row : StepRow) → slice_get x.rows 0 ≡ Some row → row.s.0 ≡ x.first.0
   pub chained : (k : ℕ) (row next : StepRow) → slice_get x.rows k ≡ Some row → slice_get x.rows (k + 1) ≡ Some next → next.s.0 ≡ row.s2.0
 

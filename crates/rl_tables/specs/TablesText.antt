@@ -3,22 +3,15 @@ use Rattle.std.specs.Prelude.{ℕ, suc, List, [], ◌∷◌, ◌++◌, length, O
 use Rattle.std.specs.Option.{option_map_or}
 use Rattle.rl_base.specs.declared.ids.SegId.{SegId}
 use Rattle.rl_base.specs.declared.ids.TrainId.{TrainId}
-use Rattle.rl_base.specs.declared.kind.Kind.{Kind}
-use Rattle.rl_base.specs.declared.kind.Kind.TheVariants.{Buffer, Joint, Point, Crossing}
+use Rattle.rl_base.specs.Kind.{kind_word, side_word}
 use Rattle.rl_model.specs.declared.network.NetworkPlan.{NetworkPlan}
 use Rattle.rl_model.specs.Network.{segment_name, box_name, train_name}
-use Rattle.rl_model.specs.ReportText.{line_of, side_word}
+use Rattle.rl_model.specs.ReportText.{line_of}
 use Rattle.rl_tables.specs.declared.table.BoxTable.{BoxTable}
 use Rattle.rl_tables.specs.declared.table.StepRow.{StepRow}
 use Rattle.rl_tables.specs.declared.table.TrainTable.{TrainTable}
 use Rattle.rl_tables.specs.declared.table.Tables.{Tables}
 use Rattle.rl_tables.specs.Starts.{holder_of}
-
-abbrev pub kind_word : Kind → List ℕ
-kind_word Buffer = codes "buffer"
-kind_word Joint = codes "joint"
-kind_word Point = codes "point"
-kind_word Crossing = codes "crossing"
 
 -- the name of the train that holds segment s at the start, or a star
 abbrev pub holder_word : NetworkPlan → Tables → ℕ → List ℕ

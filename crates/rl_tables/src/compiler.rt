@@ -1,6 +1,5 @@
 ghost use Rattle.std.specs.Prelude.{◌≡◌, ℕ, ◌<◌, ◌≤◌, IfOk, Some, length, slice_get, IsTrue};
-ghost use Rattle.rl_model.specs.Moves.{IsTrainOf, IsSegmentOf, IsBoxOf};
-ghost use Rattle.rl_model.specs.Network.{IsNetwork, steps_of, arm_of, has_end};
+ghost use Rattle.rl_model.specs.Network.{IsTrainOf, IsSegmentOf, IsBoxOf, IsNetwork, steps_of, arm_of, has_end};
 ghost use Rattle.rl_tables.specs.Tables.{IsListOf, IsBoxTable, IsOtherEnd, IsStepRow, IsTrainTable, AreTablesOf};
 
 use crate::line::Line;
@@ -71,7 +70,7 @@ fn span_from(net: &Network, b: BoxId, s: SegId) -> Span
 /// The row of step `k` of the train.
 fn step_row(net: &Network, t: TrainId, k: u32) -> StepRow
     requires network { IsNetwork net.now }
-    requires train { IsTrainOf net.now t }
+    requires there { IsTrainOf net.now t }
     requires step { k < steps_of net.now t.0 }
     ensures { IsStepRow net.now t.0 k result }
 {
@@ -95,7 +94,7 @@ fn step_row(net: &Network, t: TrainId, k: u32) -> StepRow
 
 fn step_rows(alloc: Global, net: &Network, t: TrainId) -> Result<StepRows, NoMemory>
     requires network { IsNetwork net.now }
-    requires train { IsTrainOf net.now t }
+    requires there { IsTrainOf net.now t }
     ensures { IfOk result (IsListOf (steps_of net.now t.0) (IsStepRow net.now t.0)) }
 {
     let mut rows = StepRows::new(alloc);
@@ -107,7 +106,7 @@ fn step_rows(alloc: Global, net: &Network, t: TrainId) -> Result<StepRows, NoMem
 
 fn train_table(alloc: Global, net: &Network, t: TrainId) -> Result<TrainTable, NoMemory>
     requires network { IsNetwork net.now }
-    requires train { IsTrainOf net.now t }
+    requires there { IsTrainOf net.now t }
     ensures { IfOk result (IsTrainTable net.now t.0) }
 {
     Ok(TrainTable {

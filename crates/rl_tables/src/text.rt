@@ -1,57 +1,18 @@
 ghost use Rattle.std.specs.Prelude.{◌≡◌, ◌<◌, ◌∷◌, ◌++◌, OnOk, IfOk, decimal, slice_get, Some, ℕ, length, flat_map, ◌≤◌, IfSome};
-ghost use Rattle.rl_base.specs.declared.kind.Kind.{Kind};
-ghost use Rattle.rl_model.specs.Moves.{IsSegmentOf, IsBoxOf, IsTrainOf};
-ghost use Rattle.rl_model.specs.ReportText.{side_word};
+ghost use Rattle.rl_model.specs.Network.{IsSegmentOf, IsBoxOf, IsTrainOf, IsNetwork, box_name};
 ghost use Rattle.rl_tables.specs.declared.table.StepRow.{StepRow};
 ghost use Rattle.rl_tables.specs.declared.table.BoxTable.{BoxTable};
 ghost use Rattle.rl_tables.specs.declared.table.TrainTable.{TrainTable};
-ghost use Rattle.rl_model.specs.Network.{IsNetwork, box_name};
 ghost use Rattle.rl_tables.specs.Tables.{IsBoxTable, IsTrainTable, AreTablesOf};
 ghost use Rattle.rl_tables.specs.Ranges.{IsRowOf};
-ghost use Rattle.rl_tables.specs.TablesText.{kind_word, holder_word, arm_line, box_line, box_lines, step_line, step_lines, train_line, train_lines, tables_text};
+ghost use Rattle.rl_tables.specs.TablesText.{holder_word, arm_line, box_line, box_lines, step_line, step_lines, train_line, train_lines, tables_text};
 
 use crate::line::Line;
 use crate::table::{BoxTable, StepRow, TrainTable};
-use rl_base::{Arm, BoxId, Kind, NoMemory, SegId, Side};
+use rl_base::{Arm, BoxId, NoMemory, SegId, kind_word, side_word};
 use rl_net::Network;
 use rl_text::Out;
 use std::alloc::Global;
-
-fn kind_word(kind: Kind) -> &'static [u8]
-    ensures { result.now ≡ kind_word kind }
-{
-    match kind {
-        Kind::Buffer => b"buffer",
-        Kind::Joint => b"joint",
-        Kind::Point => b"point",
-        Kind::Crossing => b"crossing",
-    }
-}
-
-fn side_word(side: Side) -> &'static [u8]
-    ensures { result.now ≡ side_word side }
-{
-    match side {
-        Side::Left => b"left",
-        Side::Right => b"right",
-    }
-}
-
-/// Appends a space and the word.
-fn put_word(out: &mut Out, word: &[u8]) -> Result<(), NoMemory>
-    ensures { OnOk result (out.new ≡ out.old ++ 32 ∷ word.now) }
-{
-    out.text(b" ")?;
-    out.text(word)
-}
-
-/// Appends a space and the number.
-fn put_number(out: &mut Out, n: u32) -> Result<(), NoMemory>
-    ensures { OnOk result (out.new ≡ out.old ++ 32 ∷ decimal n) }
-{
-    out.text(b" ")?;
-    out.number(u64::from(n))
-}
 
 /// Appends the name of the train that holds the segment at the start, or a star.
 fn put_holder(out: &mut Out, net: &Network, line: &Line, s: SegId) -> Result<(), NoMemory>
@@ -59,8 +20,8 @@ fn put_holder(out: &mut Out, net: &Network, line: &Line, s: SegId) -> Result<(),
     ensures { OnOk result (out.new ≡ out.old ++ 32 ∷ holder_word net.now line.now s.0) }
 {
     match line.holder(s) {
-        Some(t) => put_word(out, net.train_name(t)),
-        None => put_word(out, b"*"),
+        Some(t) => out.word(net.train_name(t)),
+        None => out.word(b"*"),
     }
 }
 
@@ -80,22 +41,22 @@ fn put_arm(
         return Ok(());
     };
     out.text(b"arm")?;
-    put_number(out, i)?;
-    put_word(out, net.seg_name(s))?;
+    out.count(i)?;
+    out.word(net.seg_name(s))?;
     put_holder(out, net, line, s)?;
     out.text(b"\n")
 }
 
 /// Appends the line that names a box.
 fn put_box_line(out: &mut Out, net: &Network, x: &BoxTable) -> Result<(), NoMemory>
-    requires { IsBoxOf net.now x.now.number }
+    requires there { IsBoxOf net.now x.now.number }
     ensures { OnOk result (out.new ≡ out.old ++ box_line net.now x.now) }
 {
     out.text(b"box")?;
-    put_number(out, x.number.0)?;
-    put_word(out, net.box_name(x.number))?;
-    put_word(out, kind_word(x.kind))?;
-    put_word(out, side_word(x.side))?;
+    out.count(x.number.0)?;
+    out.word(net.box_name(x.number))?;
+    out.word(kind_word(x.kind))?;
+    out.word(side_word(x.side))?;
     out.text(b"\n")
 }
 
@@ -116,20 +77,20 @@ fn put_box(out: &mut Out, net: &Network, line: &Line, x: &BoxTable) -> Result<()
 
 /// Appends the name of a box and the number of an arm.
 fn put_end(out: &mut Out, net: &Network, b: BoxId, arm: Arm) -> Result<(), NoMemory>
-    requires { IsBoxOf net.now b }
+    requires there { IsBoxOf net.now b }
     ensures { OnOk result (out.new ≡ out.old ++ 32 ∷ box_name net.now b.0 ++ 32 ∷ decimal arm.0) }
 {
-    put_word(out, net.box_name(b))?;
-    put_number(out, arm.0)
+    out.word(net.box_name(b))?;
+    out.count(arm.0)
 }
 
 /// Appends the box that the row passes and the two arms there.
 fn put_passage(out: &mut Out, net: &Network, row: &StepRow) -> Result<(), NoMemory>
-    requires { IsBoxOf net.now row.now.b }
+    requires there { IsBoxOf net.now row.now.b }
     ensures { OnOk result (out.new ≡ out.old ++ 32 ∷ box_name net.now row.now.b.0 ++ 32 ∷ decimal row.now.x.0 ++ 32 ∷ decimal row.now.y.0) }
 {
     put_end(out, net, row.b, row.x)?;
-    put_number(out, row.y.0)
+    out.count(row.y.0)
 }
 
 /// Appends the line of step `k`.
@@ -138,7 +99,7 @@ fn put_step(out: &mut Out, net: &Network, k: u32, row: &StepRow) -> Result<(), N
     ensures { OnOk result (out.new ≡ out.old ++ step_line net.now k row.now) }
 {
     out.text(b"step")?;
-    put_number(out, k)?;
+    out.count(k)?;
     put_passage(out, net, row)?;
     put_end(out, net, row.c, row.c_arm)?;
     put_end(out, net, row.a, row.a_arm)?;
@@ -164,9 +125,9 @@ fn put_train_line(out: &mut Out, net: &Network, x: &TrainTable) -> Result<(), No
     ensures { OnOk result (out.new ≡ out.old ++ train_line net.now x.now) }
 {
     out.text(b"train")?;
-    put_number(out, x.number.0)?;
-    put_word(out, net.train_name(x.number))?;
-    put_number(out, x.rows.len() as u32)?;
+    out.count(x.number.0)?;
+    out.word(net.train_name(x.number))?;
+    out.count(x.rows.len() as u32)?;
     out.text(b"\n")
 }
 

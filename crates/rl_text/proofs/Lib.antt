@@ -1,2 +1,3 @@
+pub mod LineWords
 pub mod LinesLemmas
 pub mod NumberLemmas

@@ -1,9 +1,11 @@
+-- The lines of a text, and how they are given one after another.
 use Rattle.std.specs.Prelude.{ℕ, ◌==◌, Bool, true, false, List, [], ◌∷◌, ◌++◌, length, if◌then◌else◌}
 use Rattle.std.specs.List.{slice_split}
+use Rattle.rl_base.specs.declared.limits.TheConstants.{MAX_REPORT_BYTES}
 
--- how many bytes a text may have
+-- how many bytes a text may have: the longest of all is a report
 abbrev pub longest_text : ℕ
-longest_text = 134217728
+longest_text = MAX_REPORT_BYTES
 
 -- a line without its LF, and whether an LF ended it
 pub record Line : Type 0 where

@@ -92,5 +92,13 @@ fn grows_at_its_end(rt: HostRuntime) -> Result<(), Fail> {
     out.text(b"\n")?;
     out.number(u64::MAX)?;
     assert_eq!(rt; out.bytes(), b"tries 0\n18446744073709551615".as_slice());
+
+    let mut out = Out::new(rt.alloc());
+    out.line(b"end", &[])?;
+    out.line(b"reserve", &[b"T1", b"B"])?;
+    out.text(b"step")?;
+    out.count(0)?;
+    out.word(b"J1")?;
+    assert_eq!(rt; out.bytes(), b"end\nreserve T1 B\nstep 0 J1".as_slice());
     Ok(())
 }

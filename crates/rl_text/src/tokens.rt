@@ -68,7 +68,8 @@ impl<'a> Tokens<'a> {
     /// Gives the next line, and `None` at the end of the text and ever after.
     pub fn line(&mut self) -> Option<TextLine<'a>>
         ensures end { IsNone result ↔ (self.old.left ≡ []) }
-        ensures first { IfSome result (λ line. self.old.left ≡ record { text = line.text.now; whole = line.whole } ∷ self.new.left) }
+        ensures first { IfSome result (λ line. self.old.left ≡
+            record { text = line.text.now; whole = line.whole } ∷ self.new.left) }
         ensures number { IfSome result (λ line. line.number ≡ self.old.given + 1) }
         ensures counted { IfSome result (λ line. self.new.given ≡ line.number) }
         ensures limit { IfSome result (λ line. line.number ≤ longest_text) }

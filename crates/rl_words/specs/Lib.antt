@@ -2,7 +2,9 @@ pub mod Fields
 pub mod Lock
 pub mod Mail
 pub mod Owner
+pub mod Readings
 pub mod Resv
 pub mod Run
 pub mod Sense
 pub mod Stamps
+pub mod Word

@@ -1,4 +1,6 @@
-use Rattle.std.specs.Prelude.{◌≡◌, ◌≢◌, ℕ, ◌+◌, ◌*◌, ◌^◌, ◌<◌}
+use Rattle.std.specs.Prelude.{◌≡◌, ◌≢◌, ℕ, ◌+◌, ◌*◌, ◌^◌, ◌<◌, ◌==◌, Bool, ◌&&◌}
+use Rattle.rl_base.specs.declared.ids.Arm.{Arm}
+use Rattle.rl_base.specs.declared.ids.BoxId.{BoxId}
 use Rattle.rl_base.specs.declared.job.Verb.{Verb}
 use Rattle.rl_base.specs.declared.job.Verb.TheVariants.{Reserve, Release, Lock, Unlock}
 use Rattle.rl_words.specs.declared.mail.Letter.{Letter}
@@ -51,3 +53,15 @@ packed_mail (Ask l) = 1 + packed_letter l
 packed_mail (Taken l) = 2 + packed_letter l
 packed_mail (Yes l) = 3 + packed_letter l
 packed_mail (No l holder) = 4 + packed_letter l + holder.0 * 2 ^ 16
+
+-- the two letters are one
+abbrev pub same_letter : Letter → Letter → Bool
+same_letter a b = a.to.0 == b.to.0 && (verb_code a.verb == verb_code b.verb && (a.x.0 == b.x.0 && a.y.0 == b.y.0))
+
+-- a letter about one arm of a box
+abbrev pub about_arm : BoxId → Verb → Arm → Letter
+about_arm b verb x = record { to = b; verb = verb; x = x; y = record { 0 = 0 } }
+
+-- a letter about the passage from one arm of a box to another
+abbrev pub about_passage : BoxId → Verb → Arm → Arm → Letter
+about_passage b verb x y = record { to = b; verb = verb; x = x; y = y }

@@ -1,4 +1,4 @@
-ghost use Rattle.std.specs.Prelude.{◌≡◌, ◌≢◌, ℕ, ◌+◌, ◌*◌, ◌^◌, ◌<◌, ◌≤◌, Option};
+ghost use Rattle.std.specs.Prelude.{◌≡◌, ◌≢◌, ℕ, ◌+◌, ◌*◌, ◌^◌, ◌<◌, ◌≤◌, true, Option};
 ghost use Rattle.rl_base.specs.declared.ids.TrainId.{TrainId};
 ghost use Rattle.rl_base.specs.declared.layout.Layout.{Layout};
 ghost use Rattle.rl_words.specs.declared.lock.LockWord.{LockWord};
@@ -8,12 +8,17 @@ ghost use Rattle.rl_words.specs.declared.run.RunWord.{RunWord};
 ghost use Rattle.rl_words.specs.declared.sense.SenseWord.{SenseWord};
 ghost use Rattle.rl_words.specs.Fields.{field, with_field};
 ghost use Rattle.rl_words.specs.Lock.{FitsLock, packed_lock};
-ghost use Rattle.rl_words.specs.Mail.{FitsMail, packed_mail};
+ghost use Rattle.rl_words.specs.Mail.{FitsMail, packed_mail, same_letter};
+ghost use Rattle.rl_words.specs.declared.mail.Letter.{Letter};
 ghost use Rattle.rl_words.specs.Owner.{Owns};
 ghost use Rattle.rl_words.specs.Resv.{FitsArm, FitsResv, arm_code, packed_resv, arm_in, with_arm};
 ghost use Rattle.rl_words.specs.Run.{FitsRun, packed_run};
 ghost use Rattle.rl_words.specs.Sense.{FitsSense, packed_sense};
 ghost use Rattle.rl_words.specs.Stamps.{stamp_in, payload_in, stamped};
+ghost use Rattle.rl_words.specs.Readings.{read_resv, read_lock, read_mail, read_run, read_sense};
+ghost use Rattle.rl_words.specs.Word.{Word, kind_of, FitsWord, packed_word, read_word, word_owner, IsReading};
+ghost use Rattle.rl_base.specs.declared.layout.WordKind.{WordKind};
+ghost use Rattle.rl_base.specs.Layout.{HasWord, HasNode, word_number, node_number};
 
 use rl_base::numberings;
 
@@ -60,3 +65,32 @@ pub fn one_owner()
     // No two words have one number, for the proof.
     numberings();
 }
+
+/// Letters that are compared field by field are one.
+pub fn letters()
+    ensures same { (a b : Letter) → same_letter a b ≡ true → a ≡ b }
+    ensures itself { (a : Letter) → same_letter a a ≡ true }
+{}
+
+/// Exactly a packing is read, as the value of which it is the packing.
+pub fn readings()
+    ensures resv { (v : ResvWord) → FitsResv v → read_resv (packed_resv v) ≡ Some v }
+    ensures lock { (v : LockWord) → FitsLock v → read_lock (packed_lock v) ≡ Some v }
+    ensures mail { (v : MailWord) → FitsMail v → read_mail (packed_mail v) ≡ Some v }
+    ensures run { (v : RunWord) → FitsRun v → read_run (packed_run v) ≡ Some v }
+    ensures sense { (v : SenseWord) → FitsSense v → read_sense (packed_sense v) ≡ Some v }
+
+    ensures resv_only { (n : ℕ) (v : ResvWord) → read_resv n ≡ Some v → FitsResv v × (packed_resv v ≡ n) }
+    ensures lock_only { (n : ℕ) (v : LockWord) → read_lock n ≡ Some v → FitsLock v × (packed_lock v ≡ n) }
+    ensures mail_only { (n : ℕ) (v : MailWord) → read_mail n ≡ Some v → FitsMail v × (packed_mail v ≡ n) }
+    ensures run_only { (n : ℕ) (v : RunWord) → read_run n ≡ Some v → FitsRun v × (packed_run v ≡ n) }
+    ensures sense_only { (n : ℕ) (v : SenseWord) → read_sense n ≡ Some v → FitsSense v × (packed_sense v ≡ n) }
+{}
+
+/// The same of any word, whose payload is below 2 to the 32, and which its owner owns.
+pub fn words()
+    ensures reads { (word : Word) → FitsWord word → read_word (kind_of word) (packed_word word) ≡ Some word }
+    ensures only { (kind : WordKind) (n : ℕ) (word : Word) → read_word kind n ≡ Some word → IsReading kind n word }
+    ensures small { (word : Word) → FitsWord word → packed_word word < 2 ^ 32 }
+    ensures owned { (lay : Layout) (word : Word) → HasWord lay (kind_of word) → HasNode lay (word_owner word) → FitsWord word → Owns lay (word_number lay (kind_of word)) (packed_word word) (node_number lay (word_owner word)) }
+{}

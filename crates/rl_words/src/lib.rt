@@ -14,7 +14,7 @@ pub mod run;
 pub mod sense;
 pub mod stamp;
 
-pub use laws::{arms, bit_fields, one_owner, packings, stamps};
+pub use laws::{arms, bit_fields, letters, one_owner, packings, readings, stamps, words};
 pub use lock::{LockWord, Path};
 pub use mail::{Letter, MailWord};
 pub use owners::owner;

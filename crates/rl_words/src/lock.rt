@@ -2,6 +2,7 @@ ghost use Rattle.std.specs.Prelude.{◌≡◌, ◌≢◌, ◌+◌, ◌*◌, ◌%
 ghost use Rattle.rl_words.specs.declared.lock.LockWord.{LockWord};
 ghost use Rattle.rl_words.specs.declared.lock.Path.{Path};
 ghost use Rattle.rl_words.specs.Lock.{FitsPath, FitsLock, side_code, packed_path, packed_lock};
+ghost use Rattle.rl_words.specs.Readings.{read_lock};
 
 use crate::field::{field, put};
 use rl_base::{Arm, Side, TrainId};
@@ -53,6 +54,30 @@ fn path_of(payload: u32) -> Option<Path>
     }
 }
 
+/// The word of a payload, and `None` where the payload is no packing.
+fn lock_of(payload: u32) -> Option<LockWord>
+    ensures some { IfSome result (λ v. FitsLock v × (packed_lock v ≡ payload)) }
+    ensures none { IfNone result ((v : LockWord) → FitsLock v → packed_lock v ≢ payload) }
+    ensures back { (v : LockWord) → FitsLock v → packed_lock v ≡ payload → result ≡ Some v }
+{
+    let tag = field(payload, 0, 3);
+    if tag == 0 {
+        return match field(payload, 3, 29) {
+            0 => Some(LockWord::Free(Side::Left)),
+            1 => Some(LockWord::Free(Side::Right)),
+            _ => None,
+        };
+    }
+    let path = path_of(payload)?;
+    match tag {
+        1 => Some(LockWord::Asked(path)),
+        2 => Some(LockWord::Moving(path)),
+        3 => Some(LockWord::Moved(path)),
+        4 => Some(LockWord::Locked(path)),
+        _ => None,
+    }
+}
+
 impl LockWord {
     /// The tag is in bits 0 to 2. The side of a free box is in bit 3, 0 for left and 1 for right. Of a path the
     /// train is in bits 4 to 8, `x` in bits 9 and 10, and `y` in bits 11 and 12.
@@ -75,22 +100,8 @@ impl LockWord {
         ensures some { IfSome result (λ v. FitsLock v × (packed_lock v ≡ payload)) }
         ensures none { IfNone result ((v : LockWord) → FitsLock v → packed_lock v ≢ payload) }
         ensures back { (v : LockWord) → FitsLock v → packed_lock v ≡ payload → result ≡ Some v }
+        ensures read { result ≡ read_lock payload }
     {
-        let tag = field(payload, 0, 3);
-        if tag == 0 {
-            return match field(payload, 3, 29) {
-                0 => Some(LockWord::Free(Side::Left)),
-                1 => Some(LockWord::Free(Side::Right)),
-                _ => None,
-            };
-        }
-        let path = path_of(payload)?;
-        match tag {
-            1 => Some(LockWord::Asked(path)),
-            2 => Some(LockWord::Moving(path)),
-            3 => Some(LockWord::Moved(path)),
-            4 => Some(LockWord::Locked(path)),
-            _ => None,
-        }
+        lock_of(payload)
     }
 }

@@ -1,7 +1,8 @@
 ghost use Rattle.std.specs.Prelude.{◌≡◌, ◌≢◌, ◌+◌, ◌*◌, ◌%◌, ◌^◌, ◌<◌, ◌≤◌, ◌↔◌, IsTrue, IfSome, IfNone};
 ghost use Rattle.rl_words.specs.declared.mail.Letter.{Letter};
 ghost use Rattle.rl_words.specs.declared.mail.MailWord.{MailWord};
-ghost use Rattle.rl_words.specs.Mail.{FitsArms, FitsLetter, IsRefusable, FitsMail, verb_code, packed_letter, packed_mail};
+ghost use Rattle.rl_words.specs.Mail.{FitsArms, FitsLetter, IsRefusable, FitsMail, verb_code, same_letter, packed_letter, packed_mail};
+ghost use Rattle.rl_words.specs.Readings.{read_mail};
 
 use crate::field::{field, put};
 use rl_base::{Arm, BoxId, TrainId, Verb};
@@ -97,6 +98,38 @@ fn letter_of(payload: u32) -> Option<Letter>
     }
 }
 
+/// The word of a payload, and `None` where the payload is no packing.
+fn mail_of(payload: u32) -> Option<MailWord>
+    ensures some { IfSome result (λ v. FitsMail v × (packed_mail v ≡ payload)) }
+    ensures none { IfNone result ((v : MailWord) → FitsMail v → packed_mail v ≢ payload) }
+    ensures back { (v : MailWord) → FitsMail v → packed_mail v ≡ payload → result ≡ Some v }
+{
+    if payload == 0 {
+        return Some(MailWord::Empty);
+    }
+    let letter = letter_of(payload)?;
+    let above = field(payload, 16, 16);
+    match field(payload, 0, 3) {
+        1 if above == 0 => Some(MailWord::Ask(letter)),
+        2 if above == 0 => Some(MailWord::Taken(letter)),
+        3 if above == 0 => Some(MailWord::Yes(letter)),
+        4 if above < 32 && is_refusable(letter.verb) => Some(MailWord::No(letter, TrainId(above))),
+        _ => None,
+    }
+}
+
+impl Letter {
+    /// Whether the two letters are one.
+    pub fn is_same(&self, other: &Letter) -> bool
+        ensures { result ≡ same_letter self.now other.now }
+    {
+        self.to.0 == other.to.0
+            && verb_code(self.verb) == verb_code(other.verb)
+            && self.x.0 == other.x.0
+            && self.y.0 == other.y.0
+    }
+}
+
 impl MailWord {
     /// The tag is in bits 0 to 2. Of a letter the box is in bits 3 to 9, the verb in bits 10 and 11, `x` in bits
     /// 12 and 13, and `y` in bits 14 and 15. The holder of a No is in bits 16 to 20.
@@ -118,21 +151,8 @@ impl MailWord {
         ensures some { IfSome result (λ v. FitsMail v × (packed_mail v ≡ payload)) }
         ensures none { IfNone result ((v : MailWord) → FitsMail v → packed_mail v ≢ payload) }
         ensures back { (v : MailWord) → FitsMail v → packed_mail v ≡ payload → result ≡ Some v }
+        ensures read { result ≡ read_mail payload }
     {
-        if payload == 0 {
-            return Some(MailWord::Empty);
-        }
-        let letter = letter_of(payload)?;
-        let above = field(payload, 16, 16);
-        match field(payload, 0, 3) {
-            1 if above == 0 => Some(MailWord::Ask(letter)),
-            2 if above == 0 => Some(MailWord::Taken(letter)),
-            3 if above == 0 => Some(MailWord::Yes(letter)),
-            4 if above < 32 && is_refusable(letter.verb) => Some(MailWord::No(
-                letter,
-                TrainId(above),
-            )),
-            _ => None,
-        }
+        mail_of(payload)
     }
 }

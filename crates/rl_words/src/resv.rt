@@ -3,6 +3,7 @@ ghost use Rattle.rl_base.specs.declared.ids.TrainId.{TrainId};
 ghost use Rattle.rl_words.specs.declared.resv.ResvWord.{ResvWord};
 ghost use Rattle.rl_words.specs.Fields.{field};
 ghost use Rattle.rl_words.specs.Resv.{FitsArm, arm_code, FitsResv, packed_resv, arm_in, with_arm};
+ghost use Rattle.rl_words.specs.Readings.{read_resv};
 
 use crate::field::{field, put};
 use rl_base::{Arm, TrainId};
@@ -40,6 +41,23 @@ fn arm_at(payload: u32, at: u32) -> Option<Option<TrainId>>
         code if code <= 32 => Some(Some(TrainId(code - 1))),
         _ => None,
     }
+}
+
+/// The word of a payload, and `None` where the payload is no packing.
+fn resv_of(payload: u32) -> Option<ResvWord>
+    ensures some { IfSome result (λ v. FitsResv v × (packed_resv v ≡ payload)) }
+    ensures none { IfNone result ((v : ResvWord) → FitsResv v → packed_resv v ≢ payload) }
+    ensures back { (v : ResvWord) → FitsResv v → packed_resv v ≡ payload → result ≡ Some v }
+{
+    if field(payload, 24, 8) != 0 {
+        return None;
+    }
+    Some(ResvWord {
+        arm0: arm_at(payload, 0)?,
+        arm1: arm_at(payload, 6)?,
+        arm2: arm_at(payload, 12)?,
+        arm3: arm_at(payload, 18)?,
+    })
 }
 
 impl ResvWord {
@@ -98,15 +116,8 @@ impl ResvWord {
         ensures some { IfSome result (λ v. FitsResv v × (packed_resv v ≡ payload)) }
         ensures none { IfNone result ((v : ResvWord) → FitsResv v → packed_resv v ≢ payload) }
         ensures back { (v : ResvWord) → FitsResv v → packed_resv v ≡ payload → result ≡ Some v }
+        ensures read { result ≡ read_resv payload }
     {
-        if field(payload, 24, 8) != 0 {
-            return None;
-        }
-        Some(ResvWord {
-            arm0: arm_at(payload, 0)?,
-            arm1: arm_at(payload, 6)?,
-            arm2: arm_at(payload, 12)?,
-            arm3: arm_at(payload, 18)?,
-        })
+        resv_of(payload)
     }
 }

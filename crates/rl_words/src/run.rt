@@ -1,6 +1,7 @@
 ghost use Rattle.std.specs.Prelude.{◌≡◌, ◌≢◌, ◌+◌, ◌*◌, ◌<◌, ◌≤◌, IfSome, IfNone};
 ghost use Rattle.rl_words.specs.declared.run.RunWord.{RunWord};
 ghost use Rattle.rl_words.specs.Run.{FitsRun, packed_run};
+ghost use Rattle.rl_words.specs.Readings.{read_run};
 
 use crate::field::{field, put};
 
@@ -11,6 +12,21 @@ pub enum RunWord {
     Clear(u32),
     Go(u32),
     Across(u32),
+}
+
+/// The word of a payload, and `None` where the payload is no packing.
+fn run_of(payload: u32) -> Option<RunWord>
+    ensures some { IfSome result (λ v. FitsRun v × (packed_run v ≡ payload)) }
+    ensures none { IfNone result ((v : RunWord) → FitsRun v → packed_run v ≢ payload) }
+    ensures back { (v : RunWord) → FitsRun v → packed_run v ≡ payload → result ≡ Some v }
+{
+    let k = payload >> 2;
+    match field(payload, 0, 2) {
+        0 if k <= 64 => Some(RunWord::Clear(k)),
+        1 if k <= 63 => Some(RunWord::Go(k)),
+        2 if k <= 63 => Some(RunWord::Across(k)),
+        _ => None,
+    }
 }
 
 impl RunWord {
@@ -31,13 +47,8 @@ impl RunWord {
         ensures some { IfSome result (λ v. FitsRun v × (packed_run v ≡ payload)) }
         ensures none { IfNone result ((v : RunWord) → FitsRun v → packed_run v ≢ payload) }
         ensures back { (v : RunWord) → FitsRun v → packed_run v ≡ payload → result ≡ Some v }
+        ensures read { result ≡ read_run payload }
     {
-        let k = payload >> 2;
-        match field(payload, 0, 2) {
-            0 if k <= 64 => Some(RunWord::Clear(k)),
-            1 if k <= 63 => Some(RunWord::Go(k)),
-            2 if k <= 63 => Some(RunWord::Across(k)),
-            _ => None,
-        }
+        run_of(payload)
     }
 }

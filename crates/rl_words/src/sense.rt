@@ -1,6 +1,7 @@
 ghost use Rattle.std.specs.Prelude.{◌≡◌, ◌≢◌, ◌+◌, ◌*◌, ◌<◌, ◌≤◌, IfSome, IfNone};
 ghost use Rattle.rl_words.specs.declared.sense.SenseWord.{SenseWord};
 ghost use Rattle.rl_words.specs.Sense.{FitsSense, packed_sense};
+ghost use Rattle.rl_words.specs.Readings.{read_sense};
 
 use crate::field::{field, put};
 
@@ -11,6 +12,21 @@ pub enum SenseWord {
     Quiet(u32),
     Head(u32),
     Tail(u32),
+}
+
+/// The word of a payload, and `None` where the payload is no packing.
+fn sense_of(payload: u32) -> Option<SenseWord>
+    ensures some { IfSome result (λ v. FitsSense v × (packed_sense v ≡ payload)) }
+    ensures none { IfNone result ((v : SenseWord) → FitsSense v → packed_sense v ≢ payload) }
+    ensures back { (v : SenseWord) → FitsSense v → packed_sense v ≡ payload → result ≡ Some v }
+{
+    let k = payload >> 2;
+    match field(payload, 0, 2) {
+        0 if k <= 64 => Some(SenseWord::Quiet(k)),
+        1 if k <= 63 => Some(SenseWord::Head(k)),
+        2 if k <= 63 => Some(SenseWord::Tail(k)),
+        _ => None,
+    }
 }
 
 impl SenseWord {
@@ -31,13 +47,8 @@ impl SenseWord {
         ensures some { IfSome result (λ v. FitsSense v × (packed_sense v ≡ payload)) }
         ensures none { IfNone result ((v : SenseWord) → FitsSense v → packed_sense v ≢ payload) }
         ensures back { (v : SenseWord) → FitsSense v → packed_sense v ≡ payload → result ≡ Some v }
+        ensures read { result ≡ read_sense payload }
     {
-        let k = payload >> 2;
-        match field(payload, 0, 2) {
-            0 if k <= 64 => Some(SenseWord::Quiet(k)),
-            1 if k <= 63 => Some(SenseWord::Head(k)),
-            2 if k <= 63 => Some(SenseWord::Tail(k)),
-            _ => None,
-        }
+        sense_of(payload)
     }
 }

@@ -1,8 +1,28 @@
 use Rattle.std.proofs.Common.{inl}
-use Rattle.relis.proofs.Expected.{leads_expected}
+use Rattle.relis.specs.Calls.{outside}
+use Rattle.relis.proofs.Causes.{written_whole, no_write_fault, told_fault, same_answer}
 use Rattle.relis.proofs.top.relis_plain.Goals as goal
 
-pub returns-in-Ok-put_all-clause-complete : goal.returns-in-Ok-put_all-clause-complete
-returns-in-Ok-put_all-clause-complete g c = λ answer is can_read can_put.
-    inl (leads_expected c.args.words.now (g.F.Files.held c.args.files.now) c.in-Ok.decision.status c.in-Ok.decision.text answer c.in-Ok.ensures.leads
-    (λ fault. can_read (c.in-Ok.ensures.cause fault)) is)
+pub returns-in-Ok-put_all : goal.returns-in-Ok-put_all
+returns-in-Ok-put_all g c =
+    let words = c.args.words.now in
+    let held = g.F.Files.held c.args.files.now in
+    let first = g.F.Files.faults c.args.files.now in
+    let last = g.F.Files.faults c.decide.new.files in
+    let before = outside held first (g.K.Sink.written c.args.out.now) (g.K.Sink.faults c.args.out.now) in
+    let now = outside (g.F.Files.held c.decide.new.files) last (g.K.Sink.written c.put_all.new.out) (g.K.Sink.faults c.put_all.new.out) in
+    let status = c.in-Ok.decision.status in
+    let text = c.in-Ok.decision.text in
+    let leads = c.in-Ok.ensures.leads in
+    record {
+      written = written_whole words before now status text leads (rw c.bytes.ensures at c.in-Ok-put_all.ensures.whole);
+      write_fault = λ is. absurd (no_write_fault words held first last status text leads is);
+      puts = λ _. c.in-Ok-put_all.ensures.kept;
+      fetches = λ rose. inl (told_fault words held first last status text leads rose);
+      complete = λ nothing all answer other cause.
+          inl (same_answer words held first last status answer text other all nothing.files leads cause);
+      files_stay = c.decide.ensures.files_stay;
+      others = c.decide.ensures.others;
+      later = c.decide.ensures.later;
+      sink_later = c.put_all.ensures.later;
+    }

@@ -1,7 +1,7 @@
 use Rattle.std.proofs.Common.{◌≡◌, List, [], ◌∷◌, ◌++◌, length-append, sym, ◌∙◌, subst, arith}
 use Rattle.rl_text.specs.Lines.{Reading}
 use Rattle.rl_model.specs.declared.report.Outcome.{Outcome}
-use Rattle.rl_domain.specs.Tables.{Fits}
+use Rattle.rl_domain.specs.Rows.{Fits}
 use Rattle.rl_report.specs.Reading.{HasNoMove}
 use Rattle.rl_audit.proofs.Judging.{length_of_counts}
 use Rattle.rl_audit.proofs.auditing.judge_trains.Goals as goal

@@ -1,5 +1,5 @@
 use Rattle.std.proofs.Common.{◌≡◌, ◌≤◌, length}
-use Rattle.rl_domain.specs.Tables.{Fits}
+use Rattle.rl_domain.specs.Rows.{Fits}
 use Rattle.rl_report.specs.Grammar.{most_moves}
 use Rattle.rl_audit.specs.Judging.{JudgedTrains}
 use Rattle.rl_audit.proofs.auditing.judge_trains.Given as goal

@@ -1,6 +1,6 @@
 use Rattle.std.proofs.Common.{sym}
 use Rattle.rl_base.specs.declared.kind.Side.TheVariants.{Left, Right}
-use Rattle.rl_domain.specs.Tables.{world_of}
+use Rattle.rl_domain.specs.Rows.{world_of}
 use Rattle.rl_direct.proofs.Passing.{turn_at_side, turn_at_moving}
 use Rattle.rl_direct.proofs.turn.pass.Goals as goal
 

@@ -1,5 +1,5 @@
 use Rattle.std.proofs.Common.{◌≡◌, take, map, None}
-use Rattle.rl_model.specs.Drafts.{number_in}
+use Rattle.rl_drafts.specs.Drafts.{number_in}
 use Rattle.rl_net.proofs.names.number_of.Given as goal
 
 abbrev pub invariant-loop-i : goal.invariant-loop-i

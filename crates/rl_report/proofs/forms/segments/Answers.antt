@@ -1,7 +1,7 @@
 use Rattle.std.proofs.Common.{◌≡◌, ◌≢◌, ℕ, List, [], ◌∷◌, Option, Some, None, IfNone}
 use Rattle.rl_base.specs.declared.ids.SegId.{SegId}
 use Rattle.rl_model.specs.declared.network.NetworkPlan.{NetworkPlan}
-use Rattle.rl_model.specs.Moves.{IsSegmentOf}
+use Rattle.rl_model.specs.Network.{IsSegmentOf}
 use Rattle.rl_model.specs.Network.{segment_name}
 use Rattle.rl_report.proofs.forms.segments.Goals as goal
 

@@ -3,7 +3,7 @@ use Rattle.rl_base.specs.declared.ids.TrainId.{TrainId}
 use Rattle.rl_text.specs.Words.{words_of}
 use Rattle.rl_model.specs.declared.network.NetworkPlan.{NetworkPlan}
 use Rattle.rl_model.specs.declared.report.Outcome.{Outcome}
-use Rattle.rl_model.specs.Moves.{IsTrainOf}
+use Rattle.rl_model.specs.Network.{IsTrainOf}
 use Rattle.rl_model.specs.Network.{IsNetwork}
 use Rattle.rl_report.specs.Words.{IsCount, outcome_words}
 use Rattle.rl_report.specs.Grammar.{IsOutcomeLine}

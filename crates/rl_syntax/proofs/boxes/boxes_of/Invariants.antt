@@ -1,6 +1,7 @@
-use Rattle.std.proofs.Common.{◌≡◌, length, drop}
+use Rattle.std.proofs.Common.{◌≡◌, length, drop, All}
 use Rattle.toml.specs.View.{items_view}
-use Rattle.rl_syntax.specs.Network.{box_in, boxes_of}
+use Rattle.rl_syntax.specs.Countable.{HasCountableArms}
+use Rattle.rl_syntax.specs.DraftReading.{box_in, boxes_of}
 use Rattle.rl_syntax.specs.Reading.{each}
 use Rattle.rl_syntax.proofs.boxes.boxes_of.Given as goal
 
@@ -8,5 +9,6 @@ use Rattle.rl_syntax.proofs.boxes.boxes_of.Given as goal
 abbrev pub invariant-loop-i : goal.invariant-loop-i
 invariant-loop-i l = record {
   counted : length l.boxes ≡ l.i;
+  arms : All HasCountableArms l.boxes;
   rest : boxes_of (items_view l.items) ≡ each box_in l.boxes (items_view (drop l.i l.items));
 }

@@ -1,7 +1,7 @@
 use Rattle.std.proofs.Common.{◌≡◌, [], ◌∷◌, drop}
 use Rattle.rl_syntax.specs.Condition.{first, of_list}
 use Rattle.rl_syntax.specs.NameConditions.{no_name, no_names}
-use Rattle.rl_syntax.specs.Network.{name_place}
+use Rattle.rl_syntax.specs.DraftReading.{name_place}
 use Rattle.rl_syntax.proofs.draft_names.test_names.Given as goal
 
 -- what is left decides

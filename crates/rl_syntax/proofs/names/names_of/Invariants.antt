@@ -1,6 +1,6 @@
 use Rattle.std.proofs.Common.{◌≡◌, length, drop}
 use Rattle.toml.specs.View.{items_view}
-use Rattle.rl_syntax.specs.Network.{name_in, names_of}
+use Rattle.rl_syntax.specs.DraftReading.{name_in, names_of}
 use Rattle.rl_syntax.specs.Reading.{each}
 use Rattle.rl_syntax.proofs.names.names_of.Given as goal
 

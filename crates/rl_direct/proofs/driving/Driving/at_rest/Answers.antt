@@ -1,6 +1,6 @@
 use Rattle.std.proofs.Common.{◌<◌, refl, arith}
 use Rattle.std.proofs.lemmas.Option.{slice_get_within}
-use Rattle.rl_domain.specs.Tables.{world_of}
+use Rattle.rl_domain.specs.Rows.{world_of}
 use Rattle.rl_direct.proofs.Runs.{reached}
 use Rattle.rl_direct.proofs.driving.Driving.at_rest.Goals as goal
 

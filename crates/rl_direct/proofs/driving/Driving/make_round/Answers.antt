@@ -1,5 +1,5 @@
 use Rattle.std.proofs.Common.{◌≡◌, length, ap, arith}
-use Rattle.rl_domain.specs.Tables.{world_of}
+use Rattle.rl_domain.specs.Rows.{world_of}
 use Rattle.rl_direct.proofs.Drives.{round_made}
 use Rattle.rl_direct.proofs.driving.Driving.make_round.Goals as goal
 

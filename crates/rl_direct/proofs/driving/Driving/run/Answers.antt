@@ -1,5 +1,5 @@
 use Rattle.std.proofs.Common.{◌≤◌, arith}
-use Rattle.rl_domain.specs.Tables.{world_of}
+use Rattle.rl_domain.specs.Rows.{world_of}
 use Rattle.rl_direct.proofs.Drives.{rest_driven}
 use Rattle.rl_direct.proofs.driving.Driving.run.Goals as goal
 

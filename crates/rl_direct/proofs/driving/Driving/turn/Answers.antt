@@ -1,6 +1,6 @@
 use Rattle.std.proofs.Common.{sym, ◌∙◌, arith}
 use Rattle.rl_model.specs.Moves.{IsMoveOf}
-use Rattle.rl_domain.specs.Tables.{world_of}
+use Rattle.rl_domain.specs.Rows.{world_of}
 use Rattle.rl_direct.specs.Direct.{resting}
 use Rattle.rl_base.proofs.Lists.{each_push}
 use Rattle.rl_direct.proofs.Drives.{hold_and_fail, turn_is, moved_on}

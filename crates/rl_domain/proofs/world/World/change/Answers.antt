@@ -9,7 +9,7 @@ returns-in-Reserve-clause-world c =
 pub returns-in-Release-clause-world : goal.returns-in-Release-clause-world
 returns-in-Release-clause-world c =
     rw c.in-Release.is
-    (release_world _ _ _ c.in-Release.t.0 _ _ c.set_holder-in-Release.ensures.changed (rw c.in-Release.is at c.requires.guards))
+    (release_world _ _ _ c.in-Release.t _ _ c.set_holder-in-Release.ensures.changed (rw c.in-Release.is at c.requires.guards))
 
 pub returns-in-Lock-clause-world : goal.returns-in-Lock-clause-world
 returns-in-Lock-clause-world c =
@@ -18,22 +18,22 @@ returns-in-Lock-clause-world c =
 pub returns-in-Enter-clause-world : goal.returns-in-Enter-clause-world
 returns-in-Enter-clause-world c =
     rw c.in-Enter.is
-    (enter_world _ _ _ _ c.in-Enter.s.0 _ _ c.requires.fits (rw c.in-Enter.is at c.requires.of).0 c.enter.ensures.changed (rw c.in-Enter.is at c.requires.guards))
+    (enter_world _ _ _ _ _ c.in-Enter.s _ c.requires.fits (rw c.in-Enter.is at c.requires.of).0 c.enter.ensures.changed (rw c.in-Enter.is at c.requires.guards))
 
 pub returns-in-Enter-clause-fits : goal.returns-in-Enter-clause-fits
 returns-in-Enter-clause-fits c =
     let of = rw c.in-Enter.is at c.requires.of in
-    enter_fits _ _ _ _ c.in-Enter.s.0 _ _ c.requires.fits of.0 of.1 of.3 c.enter.ensures.changed (rw c.in-Enter.is at c.requires.guards)
+    enter_fits _ _ _ _ _ c.in-Enter.s _ c.requires.fits of.0 of.1 of.3 c.enter.ensures.changed (rw c.in-Enter.is at c.requires.guards)
 
 pub leave-requires-clause-few : goal.leave-requires-clause-few
 leave-requires-clause-few c =
-    leave_few _ _ _ c.in-Leave.s.0 c.requires.network c.requires.fits (rw c.in-Leave.is at c.requires.of).0 (rw c.in-Leave.is at c.requires.guards)
+    leave_few _ _ _ c.in-Leave.s c.requires.network c.requires.fits (rw c.in-Leave.is at c.requires.of).0 (rw c.in-Leave.is at c.requires.guards)
 
 pub returns-in-Leave-clause-world : goal.returns-in-Leave-clause-world
 returns-in-Leave-clause-world c =
     rw c.in-Leave.is
-    (leave_world _ _ _ _ c.in-Leave.s.0 c.requires.fits (rw c.in-Leave.is at c.requires.of).0 c.leave.ensures.changed (rw c.in-Leave.is at c.requires.guards))
+    (leave_world _ _ _ _ c.in-Leave.s c.requires.fits (rw c.in-Leave.is at c.requires.of).0 c.leave.ensures.changed (rw c.in-Leave.is at c.requires.guards))
 
 pub returns-in-Leave-clause-fits : goal.returns-in-Leave-clause-fits
 returns-in-Leave-clause-fits c =
-    leave_fits _ _ _ _ c.in-Leave.s.0 c.requires.fits (rw c.in-Leave.is at c.requires.of).0 c.leave.ensures.changed (rw c.in-Leave.is at c.requires.guards)
+    leave_fits _ _ _ _ c.in-Leave.s c.requires.fits (rw c.in-Leave.is at c.requires.of).0 c.leave.ensures.changed (rw c.in-Leave.is at c.requires.guards)

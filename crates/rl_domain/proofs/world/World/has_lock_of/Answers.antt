@@ -1,6 +1,6 @@
 use Rattle.std.proofs.Common.{ap, ◌∙◌}
 use Rattle.rl_domain.specs.States.{is_lock_of}
-use Rattle.rl_domain.specs.Tables.{lock_of}
+use Rattle.rl_domain.specs.Rows.{lock_of}
 use Rattle.rl_domain.proofs.Meanings.{iff_at, lock_of_iff}
 use Rattle.rl_domain.proofs.world.World.has_lock_of.Goals as goal
 

@@ -1,16 +1,13 @@
 use Rattle.std.proofs.Common.{ap, sym, ◌∙◌, not, false}
 use Rattle.rl_model.specs.World.{points_connect}
-use Rattle.rl_domain.specs.Tables.{points_of}
+use Rattle.rl_domain.specs.Rows.{points_of}
 use Rattle.rl_domain.proofs.Meanings.{iff_at, locked_path_iff, lock_in_range, ↔_trans, not_iff}
 use Rattle.rl_domain.proofs.world.World.points_bar_lock.Goals as goal
 
-pub points_connect-requires-clause-from : goal.points_connect-requires-clause-from
-points_connect-requires-clause-from c =
-    (lock_in_range _ _ _ c.in-Some.l c.requires.fits (sym c.in-Some.ensures)).from
-
-pub points_connect-requires-clause-to : goal.points_connect-requires-clause-to
-points_connect-requires-clause-to c =
-    (lock_in_range _ _ _ c.in-Some.l c.requires.fits (sym c.in-Some.ensures)).to
+pub points_connect-requires : goal.points_connect-requires
+points_connect-requires c =
+    let l = lock_in_range _ _ _ c.in-Some.l c.requires.fits (sym c.in-Some.ensures) in
+    record { there = (c.requires.there, l.from, l.to) }
 
 pub returns-in-Some : goal.returns-in-Some
 returns-in-Some c =

@@ -3,13 +3,10 @@ use Rattle.rl_model.specs.Network.{connects}
 use Rattle.rl_domain.proofs.Meanings.{iff_at, locked_path_iff, lock_in_range}
 use Rattle.rl_domain.proofs.world.World.side_fits_lock.Goals as goal
 
-pub connects-requires-clause-from_in : goal.connects-requires-clause-from_in
-connects-requires-clause-from_in c =
-    (lock_in_range _ _ _ c.in-Some.l c.requires.fits (sym c.in-Some.ensures)).from
-
-pub connects-requires-clause-to_in : goal.connects-requires-clause-to_in
-connects-requires-clause-to_in c =
-    (lock_in_range _ _ _ c.in-Some.l c.requires.fits (sym c.in-Some.ensures)).to
+pub connects-requires : goal.connects-requires
+connects-requires c =
+    let l = lock_in_range _ _ _ c.in-Some.l c.requires.fits (sym c.in-Some.ensures) in
+    record { there = (c.requires.there, l.from, l.to) }
 
 pub returns-in-Some : goal.returns-in-Some
 returns-in-Some c =

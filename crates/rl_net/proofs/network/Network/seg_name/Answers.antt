@@ -1,4 +1,4 @@
 use Rattle.rl_net.proofs.network.Network.seg_name.Goals as goal
 
 pub returns-clause-valid : goal.returns-clause-valid
-returns-clause-valid c = rw c.bytes.ensures (c.self.invariant.segments _ _ c.at.ensures.there).name
+returns-clause-valid c = rw c.bytes.ensures (c.self.invariant.network.segments _ _ c.at.ensures.there).name

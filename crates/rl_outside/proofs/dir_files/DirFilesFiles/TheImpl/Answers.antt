@@ -6,9 +6,9 @@ pub fetch-tells : goal.fetch-tells
 fetch-tells g c = record {
   within = search rules;
   told = grind arith;
-  failed = search rules;
   too_long = grind arith;
-  files_stay = λ n. refl;
-  later = λ n. rw c.ensures.after (times_in-failed_after c.result c.args.self.now c.args.name.now n);
+  cause = search rules;
   others = search rules;
+  later = λ n. rw c.ensures.after (times_in-failed_after c.result c.args.self.now c.args.name.now n);
+  files_stay = λ n. refl;
 }

@@ -1,4 +1,4 @@
 use Rattle.rl_outside.proofs.dir_files.DirFilesFiles.fetch.Goals as goal
 
-pub returns-in_ok-note-clause-others : goal.returns-in_ok-note-clause-others
-returns-in_ok-note-clause-others g c = rw (← c.self.view_is) c.in_ok-note.ensures.others
+pub returns-clause-others : goal.returns-clause-others
+returns-clause-others g c = rw (← c.self.view_is) c.noted.ensures.others

@@ -1,14 +1,7 @@
-use Rattle.std.proofs.Common.{◌≢◌, ◌%◌, arith}
-use Rattle.rl_words.proofs.LockLemmas.{no_path}
-use Rattle.rl_words.proofs.Options.{IfNone-from}
+use Rattle.rl_words.specs.Lock.{FitsLock, packed_lock}
+use Rattle.rl_words.specs.Readings.{read_lock}
+use Rattle.rl_words.proofs.ReadingLemmas.{read_lock-packed, read_lock_only, reads}
 use Rattle.rl_words.proofs.lock.LockWord.unpack.Goals as goal
 
-pub returns-in_err-path-clause-none : goal.returns-in_err-path-clause-none
-returns-in_err-path-clause-none c =
-    let tagged : c.args.payload % 8 ≢ 0 = omega arith in
-    IfNone-from _ _ (no_path c.args.payload tagged c.in_err-path.ensures.none)
-
-pub returns-in_err-path-clause-back : goal.returns-in_err-path-clause-back
-returns-in_err-path-clause-back c v fits e =
-    let tagged : c.args.payload % 8 ≢ 0 = omega arith in
-    absurd (no_path c.args.payload tagged c.in_err-path.ensures.none v fits e)
+pub returns-clause-read : goal.returns-clause-read
+returns-clause-read c = reads FitsLock packed_lock read_lock c.args.payload _ read_lock-packed (read_lock_only c.args.payload) c.lock_of.ensures.some c.lock_of.ensures.none

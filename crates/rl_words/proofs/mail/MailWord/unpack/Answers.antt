@@ -1,14 +1,7 @@
-use Rattle.std.proofs.Common.{◌≢◌, arith}
-use Rattle.rl_words.proofs.MailLemmas.{no_letter}
-use Rattle.rl_words.proofs.Options.{IfNone-from}
+use Rattle.rl_words.specs.Mail.{FitsMail, packed_mail}
+use Rattle.rl_words.specs.Readings.{read_mail}
+use Rattle.rl_words.proofs.ReadingLemmas.{read_mail-packed, read_mail_only, reads}
 use Rattle.rl_words.proofs.mail.MailWord.unpack.Goals as goal
 
-pub returns-in_err-letter-clause-none : goal.returns-in_err-letter-clause-none
-returns-in_err-letter-clause-none c =
-    let some : c.args.payload ≢ 0 = omega arith in
-    IfNone-from _ _ (no_letter c.args.payload some c.in_err-letter.ensures.none)
-
-pub returns-in_err-letter-clause-back : goal.returns-in_err-letter-clause-back
-returns-in_err-letter-clause-back c v fits e =
-    let some : c.args.payload ≢ 0 = omega arith in
-    absurd (no_letter c.args.payload some c.in_err-letter.ensures.none v fits e)
+pub returns-clause-read : goal.returns-clause-read
+returns-clause-read c = reads FitsMail packed_mail read_mail c.args.payload _ read_mail-packed (read_mail_only c.args.payload) c.mail_of.ensures.some c.mail_of.ensures.none

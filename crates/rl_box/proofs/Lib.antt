@@ -1,0 +1,4 @@
+mod Glances
+mod Kept
+mod Sentences
+mod StepLaws

@@ -1,0 +1,4 @@
+pub mod Glance
+pub mod Kept
+pub mod Mind
+pub mod Steps

@@ -1,0 +1,5 @@
+pub mod Onward
+pub mod Started
+pub mod Turned
+pub mod Reached
+pub mod Looking

@@ -1,0 +1,22 @@
+use Rattle.std.proofs.Common.{◌≡◌, ◌≤◌, refl, arith}
+use Rattle.rl_runs.specs.Turn.{start_drive}
+use Rattle.rl_core.proofs.Started.{core_at, start_leads, start_sizes}
+use Rattle.rl_core.specs.Cores.{Core, LeadsTo, HasSizes}
+use Rattle.rl_core.proofs.cores.Core.new.Goals as goal
+
+pub invariant_of-result : goal.invariant_of-result
+invariant_of-result c =
+    rw (c.in_ok-words.ensures, c.in_ok-clocks.ensures, c.in_ok-scans.ensures) record {
+      drive = start_drive;
+      leads = start_leads c.args.line.now c.args.tries c.in_ok-minds.minds.items c.in_ok-minds.ensures.minds;
+      places = λ n there. omega arith;
+      sizes = start_sizes c.args.line.now c.args.tries c.in_ok-minds.minds.items c.in_ok-minds.ensures.minds;
+      line = c.start_minds.ensures.line;
+      some_tries = c.requires.some_tries;
+      few_tries = c.requires.few_tries;
+    }
+
+pub returns-clause-start : goal.returns-clause-start
+returns-clause-start c =
+    rw (c.in_ok-words.ensures, c.in_ok-clocks.ensures, c.in_ok-scans.ensures)
+      (start_leads c.args.line.now c.args.tries c.in_ok-minds.minds.items c.in_ok-minds.ensures.minds)

@@ -1,0 +1,4 @@
+pub mod Cores
+pub mod Made
+pub mod Starts
+pub mod Looks

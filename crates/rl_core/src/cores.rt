@@ -1,0 +1,212 @@
+ghost use Rattle.std.specs.Prelude.{◌≡◌, length, ◌+◌, ◌<◌, ◌≤◌, ◌^◌, slice_get, slice_set, slice_index_or, Some, IfOk};
+ghost use Rattle.rl_base.specs.Layout.{node_count, word_count};
+ghost use Rattle.rl_words.specs.Stamps.{payload_in, stamp_in};
+ghost use Rattle.rl_tables.specs.Starts.{layout_of};
+ghost use Rattle.rl_runs.specs.Step.{node_step};
+ghost use Rattle.rl_runs.specs.State.{next_stamp};
+ghost use Rattle.rl_runs.specs.Turn.{start_drive, next_place};
+ghost use Rattle.rl_tables.specs.Kept.{IsLine};
+ghost use Rattle.rl_runs.specs.Sound.{IsSound};
+ghost use Rattle.rl_core.specs.Cores.{state_of, LeadsTo, HasSizes, IsReached};
+ghost use Rattle.rl_core.specs.Made.{event_in, put_in, made, advanced};
+
+use crate::starts::{start_minds, start_words, zeros};
+use rl_base::{NoMemory, NodeNo, WordNo};
+use rl_record::Event;
+use rl_runs::{Mind, sound_runs};
+use rl_tables::Line;
+use rl_words::{stamp_of, word_of};
+use std::alloc::Global;
+use std::cmp::max;
+use std::marker::Model;
+
+/// All words of a line, the minds and clocks of its nodes, and the places at which its boxes scan. Contracts see it
+/// as these tables, and as the run that led to them.
+#[derive(Debug, Drop)]
+pub struct Core<'a> {
+    line: &'a Line,
+    tries: u32,
+    words: Vec<u64>,
+    minds: Vec<Mind>,
+    clocks: Vec<u32>,
+    scans: Vec<u32>,
+    events: u64,
+}
+
+impl<'a> Model for Core<'a> {
+    ghost use Rattle.rl_core.specs.Cores.{Core, IsReached};
+
+    ghost Value = { Core };
+
+    ghost view = { λ c. record { line = c.line.now; tries = c.tries; words = c.words.items; minds = c.minds.items; clocks = c.clocks.items; scans = c.scans.items; events = c.events } };
+
+    ghost invariant = { λ c. IsReached (record { line = c.line.now; tries = c.tries; words = c.words.items; minds = c.minds.items; clocks = c.clocks.items; scans = c.scans.items; events = c.events }) };
+}
+
+impl<'a> Core<'a> {
+    /// The start: the words as the line has them, every mind at its start with so many tries, every clock at 0, and
+    /// each box at its first scan place.
+    pub fn new(alloc: Global, line: &'a Line, tries: u32) -> Result<Core<'a>, NoMemory>
+        requires some_tries { 1 ≤ tries }
+        requires few_tries { tries ≤ 1000 }
+        ensures start { IfOk result (LeadsTo start_drive) }
+        ensures line { IfOk result (λ core. core.line ≡ line.now) }
+        ensures tries { IfOk result (λ core. core.tries ≡ tries) }
+    {
+        let words = start_words(alloc, line)?;
+        let minds = start_minds(alloc, line, tries)?;
+        let clocks = zeros(alloc, line)?;
+        let scans = zeros(alloc, line)?;
+        Ok(Core {
+            line,
+            tries,
+            words,
+            minds,
+            clocks,
+            scans,
+            events: 0,
+        })
+    }
+
+    /// The line on which the core runs.
+    pub fn line(&self) -> &Line
+        ensures { result.now ≡ self.now.line }
+    {
+        self.line
+    }
+
+    /// How many events were made so far.
+    pub fn events(&self) -> u64
+        ensures { result ≡ self.now.events }
+    {
+        self.events
+    }
+
+    /// Some run leads to the core.
+    pub(crate) fn reached(&self)
+        ensures { IsReached self.now }
+    {
+        let _events = &self.events;
+    }
+
+    pub(crate) fn word_at(&self, w: WordNo) -> u64
+        requires { w.0 < length self.now.words }
+        ensures { slice_get self.now.words w.0 ≡ Some result }
+    {
+        self.words[w.0 as usize]
+    }
+
+    /// The word with its stamp.
+    pub fn word(&self, w: WordNo) -> u64
+        requires { w.0 < word_count (layout_of self.now.line) }
+        ensures { slice_get self.now.words w.0 ≡ Some result }
+    {
+        self.reached();
+        self.word_at(w)
+    }
+
+    /// The mind of the node.
+    pub(crate) fn mind_at(&self, n: NodeNo) -> &Mind
+        requires { n.0 < length self.now.minds }
+        ensures { slice_get self.now.minds n.0 ≡ Some result.now }
+    {
+        &self.minds[n.0 as usize]
+    }
+
+    /// The place at which the box of the node scans.
+    pub(crate) fn scan_at(&self, n: NodeNo) -> u32
+        requires { n.0 < length self.now.scans }
+        ensures { slice_get self.now.scans n.0 ≡ Some result }
+    {
+        self.scans[n.0 as usize]
+    }
+
+    /// What is so of the core's state, whatever run led to it.
+    pub(crate) fn sound(&self)
+        requires { self.now.events < 2 ^ 32 }
+        ensures sound { IsSound self.now.line self.now.events (state_of self.now) }
+        ensures sizes { HasSizes self.now }
+        ensures line { IsLine self.now.line }
+    {
+        sound_runs();
+        self.reached();
+    }
+
+    /// The stamp of the node's next event on a word that was this.
+    fn next_stamp(&self, node: NodeNo, was: u64) -> u32
+        requires there { node.0 < length self.now.clocks }
+        requires clock { slice_index_or self.now.clocks node.0 0 < 4294967295 }
+        requires word { stamp_in was < 4294967295 }
+        ensures { result ≡ next_stamp (slice_index_or self.now.clocks node.0 0) was }
+    {
+        max(self.clocks[node.0 as usize], stamp_of(was)) + 1
+    }
+
+    /// Writes a word, and the mind and the clock of a node.
+    fn put(&mut self, node: NodeNo, w: WordNo, now: u64, stamp: u32, mind: Mind)
+        requires sizes { HasSizes self.old }
+        requires node { node.0 < node_count (layout_of self.old.line) }
+        requires word { w.0 < word_count (layout_of self.old.line) }
+        requires few { self.old.events < 4294967295 }
+        requires reached { IsReached (put_in self.old node.0 w.0 now stamp mind) }
+        ensures { self.new ≡ put_in self.old node.0 w.0 now stamp mind }
+    {
+        let n = node.0 as usize;
+        self.words[w.0 as usize] = now;
+        self.minds[n] = mind;
+        self.clocks[n] = stamp;
+        self.events += 1;
+    }
+
+    /// Makes the step of the node on the word: the word, the mind and the clock of the node are new.
+    pub(crate) fn step(&mut self, node: NodeNo, w: WordNo, was: u64, payload: u32, mind: Mind) -> Event
+        requires there { node.0 < node_count (layout_of self.old.line) }
+        requires few { self.old.events < 4294967295 }
+        requires word { slice_get self.old.words w.0 ≡ Some was }
+        requires step { node_step self.old.line node.0 ((state_of self.old).minds node.0) w.0 (payload_in was) ≡ Some (payload, mind) }
+        ensures core { self.new ≡ made self.old node.0 w.0 was payload mind }
+        ensures event { result ≡ event_in self.old node.0 w.0 was payload }
+    {
+        self.sound();
+        self.reached();
+        let stamp = self.next_stamp(node, was);
+        let now = word_of(stamp, payload);
+        self.put(node, w, now, stamp, mind);
+        Event {
+            node,
+            stamp,
+            word: w,
+            was,
+            now,
+        }
+    }
+
+    /// The place after the one at which the box of the node scans.
+    fn next_place(&self, node: NodeNo) -> u32
+        requires there { node.0 < length self.now.scans }
+        requires place { slice_index_or self.now.scans node.0 0 ≤ length self.now.line.trains }
+        requires few { length self.now.line.trains ≤ 32 }
+        ensures { result ≡ next_place self.now.line (slice_index_or self.now.scans node.0 0) }
+    {
+        (self.scans[node.0 as usize] + 1) % (self.line.layout().trains + 1)
+    }
+
+    /// Writes a scan place.
+    fn put_scan(&mut self, node: NodeNo, place: u32)
+        requires there { node.0 < length self.old.scans }
+        requires reached { IsReached (record self.old { scans = slice_set self.old.scans node.0 place }) }
+        ensures { self.new ≡ record self.old { scans = slice_set self.old.scans node.0 place } }
+    {
+        self.scans[node.0 as usize] = place;
+    }
+
+    /// The box of the node goes on to its next scan place.
+    pub(crate) fn advance(&mut self, node: NodeNo)
+        requires { node.0 < node_count (layout_of self.old.line) }
+        ensures { self.new ≡ advanced self.old node.0 }
+    {
+        self.reached();
+        let place = self.next_place(node);
+        self.put_scan(node, place);
+    }
+}

@@ -1,7 +1,0 @@
-use Rattle.std.proofs.Common.{◌≡◌, ℕ, length, Some, slice_get}
-use Rattle.rl_domain.specs.declared.tables.Standing.{Standing}
-use Rattle.rl_domain.specs.Starts.{IsFirstStanding}
-use Rattle.rl_domain.proofs.starts.first_standings.Given as goal
-
-abbrev pub invariant-loop-t : goal.invariant-loop-t
-invariant-loop-t l = (length l.standings.items ≡ l.t) × ((t : ℕ) (x : Standing) → slice_get l.standings.items t ≡ Some x → IsFirstStanding l.net t x)

@@ -1,0 +1,4 @@
+pub mod Drafts
+pub mod Refusals
+pub mod Search
+pub mod Examples

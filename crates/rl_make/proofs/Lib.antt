@@ -1,0 +1,9 @@
+pub mod Accepted
+pub mod Distinct
+pub mod Each
+pub mod EndsOf
+pub mod Found
+pub mod Legs
+pub mod Named
+pub mod Names
+pub mod Routes

@@ -1,7 +1,0 @@
-use Rattle.std.proofs.Common.{◌≡◌, None}
-use Rattle.rl_model.specs.Refusals.{NoSegment, first_below}
-use Rattle.rl_net.specs.Rows.{among_arms_of}
-use Rattle.rl_net.proofs.arms.first_no_segment.Given as goal
-
-abbrev pub invariant-loop-i : goal.invariant-loop-i
-invariant-loop-i l = first_below (among_arms_of l.index NoSegment) l.i ≡ None

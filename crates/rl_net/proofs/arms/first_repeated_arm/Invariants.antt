@@ -1,7 +1,0 @@
-use Rattle.std.proofs.Common.{◌≡◌, None}
-use Rattle.rl_base.specs.declared.place.Place.TheVariants.{BoxArm}
-use Rattle.rl_model.specs.Refusals.{SameBox, broken_at, first_below}
-use Rattle.rl_net.proofs.arms.first_repeated_arm.Given as goal
-
-abbrev pub invariant-loop-j : goal.invariant-loop-j
-invariant-loop-j l = first_below (λ j. broken_at l.draft SameBox (BoxArm l.i j)) l.j ≡ None

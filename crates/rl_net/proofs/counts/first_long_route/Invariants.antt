@@ -1,7 +1,0 @@
-use Rattle.std.proofs.Common.{◌≡◌, None}
-use Rattle.rl_base.specs.declared.place.Place.TheVariants.{TrainRoute}
-use Rattle.rl_model.specs.Refusals.{Count, broken_at, first_below}
-use Rattle.rl_net.proofs.counts.first_long_route.Given as goal
-
-abbrev pub invariant-loop-i : goal.invariant-loop-i
-invariant-loop-i l = first_below (λ i. broken_at l.draft Count (TrainRoute i)) l.i ≡ None

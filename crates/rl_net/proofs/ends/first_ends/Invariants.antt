@@ -1,7 +1,0 @@
-use Rattle.std.proofs.Common.{◌≡◌, None}
-use Rattle.rl_base.specs.declared.place.Place.TheVariants.{Segment}
-use Rattle.rl_model.specs.Refusals.{Ends, broken_at, first_below}
-use Rattle.rl_net.proofs.ends.first_ends.Given as goal
-
-abbrev pub invariant-loop-i : goal.invariant-loop-i
-invariant-loop-i l = first_below (λ i. broken_at l.draft Ends (Segment i)) l.i ≡ None

@@ -1,7 +1,0 @@
-use Rattle.std.proofs.Common.{◌≡◌, None}
-use Rattle.rl_base.specs.declared.place.Place.TheVariants.{RouteItem}
-use Rattle.rl_model.specs.Refusals.{RouteFit, broken_at, first_below}
-use Rattle.rl_net.proofs.fits.first_unfit_place.Given as goal
-
-abbrev pub invariant-loop-j : goal.invariant-loop-j
-invariant-loop-j l = first_below (λ j. broken_at l.index RouteFit (RouteItem l.i j)) l.j ≡ None

@@ -1,9 +1,0 @@
-use Rattle.std.proofs.Common.{◌≡◌, ◌-◌, ◌++◌, map, drop, length}
-use Rattle.rl_model.specs.Drafts.{segment_number, every_other}
-use Rattle.rl_net.proofs.plan.route_segments.Given as goal
-
-abbrev pub invariant-loop-k : goal.invariant-loop-k
-invariant-loop-k l = l.ids ++ map (segment_number l.index) (every_other (drop l.k l.route)) ≡ map (segment_number l.index) (every_other l.route)
-
-abbrev pub decreases-loop-k : goal.decreases-loop-k
-decreases-loop-k l = length l.route - l.k

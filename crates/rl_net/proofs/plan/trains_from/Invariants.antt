@@ -1,6 +1,0 @@
-use Rattle.std.proofs.Common.{◌≡◌, map, take}
-use Rattle.rl_model.specs.Drafts.{train_of}
-use Rattle.rl_net.proofs.plan.trains_from.Given as goal
-
-abbrev pub invariant-loop-i : goal.invariant-loop-i
-invariant-loop-i l = l.trains ≡ map (train_of l.index) (take l.i l.index.trains)

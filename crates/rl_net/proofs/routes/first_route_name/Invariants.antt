@@ -1,7 +1,0 @@
-use Rattle.std.proofs.Common.{◌≡◌, None}
-use Rattle.rl_model.specs.Refusals.{RouteName, first_below}
-use Rattle.rl_net.specs.Rows.{among_places_of}
-use Rattle.rl_net.proofs.routes.first_route_name.Given as goal
-
-abbrev pub invariant-loop-i : goal.invariant-loop-i
-invariant-loop-i l = first_below (among_places_of l.index RouteName) l.i ≡ None

@@ -1,0 +1,23 @@
+use Rattle.std.proofs.Common.{◌≡◌, ℕ, List, None, length, map, refl, ap, ◌∙◌, subst}
+use Rattle.std.proofs.lemmas.List.{map-id}
+use Rattle.rl_base.specs.declared.place.Place.TheVariants.{Segment}
+use Rattle.rl_drafts.specs.Search.{refuse}
+use Rattle.rl_net.specs.declared.name_table.NameFault.TheVariants as fault
+use Rattle.rl_net.specs.NameTables.{AreUnlike, IsNameFault}
+use Rattle.rl_net.proofs.Twice.{unbroken_by, broken_by}
+use Rattle.rl_net.proofs.rule_6_twice.segment_names.Goals as goal
+
+pub returns-in-Ok-clause-unbroken : goal.returns-in-Ok-clause-unbroken
+returns-in-Ok-clause-unbroken c =
+    let d = c.args.draft.now in
+    let same = map-id c.as_slice.result.now ∙ c.as_slice.ensures in
+    unbroken_by d (d.segments) Segment (length d.segments) (λ i. refl) (subst AreUnlike same c.in-Ok.ensures.unlike)
+
+pub returns-in-Err-Twice-clause-refused : goal.returns-in-Err-Twice-clause-refused
+returns-in-Err-Twice-clause-refused c =
+    let d = c.args.draft.now in
+    let i = c.in-Err-Twice.i in
+    let same = map-id c.as_slice.result.now ∙ c.as_slice.ensures in
+    let own = subst (IsNameFault _) c.in-Err-Twice.field-0-is c.in-Err-Twice.ensures.fault in
+    let h = subst (λ (ns : List (List ℕ)). IsNameFault ns (fault.Twice i)) same own in
+    ap (λ o. refuse 6 o None) (broken_by d (d.segments) Segment (length d.segments) (λ k. refl) i (refl) h)

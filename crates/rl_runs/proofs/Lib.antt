@@ -1,0 +1,9 @@
+pub mod Numbering
+pub mod Options
+pub mod ByKind
+pub mod Acts
+pub mod Starts
+pub mod Made
+pub mod Beginning
+pub mod Keeping
+pub mod Sounding

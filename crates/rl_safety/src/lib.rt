@@ -1,0 +1,11 @@
+//! The core theorem: the moves of every run of events are a safe run of the railway.
+//!
+//! It reads the words and minds of a core as a state of the protocol, shows that each event is a step of the protocol
+//! there, and so gives what is proved of steps as laws about runs of events. It has no code.
+#![tactic(auto)]
+
+pub mod laws;
+
+pub use laws::{
+    agreement, counted_events, counted_refusals, safe_runs, steps_of_events, trains_at_rest,
+};

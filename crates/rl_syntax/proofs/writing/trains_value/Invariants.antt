@@ -1,0 +1,8 @@
+use Rattle.std.proofs.Common.{◌≡◌, take}
+use Rattle.toml.specs.View.{items_view}
+use Rattle.rl_syntax.specs.DraftTable.{tables, train_table}
+use Rattle.rl_syntax.proofs.writing.trains_value.Given as goal
+
+-- the trains so far are in the array
+abbrev pub invariant-loop-draft : goal.invariant-loop-draft
+invariant-loop-draft l = items_view l.items.items ≡ tables train_table (take l.draft-index l.trains)

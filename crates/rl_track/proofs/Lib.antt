@@ -1,0 +1,2 @@
+mod MachineLemmas
+mod TrackLemmas

@@ -1,0 +1,55 @@
+ghost use Rattle.std.specs.Prelude.{◌≡◌, ◌↔◌, ◌<◌, ℕ, Some};
+ghost use Rattle.rl_base.specs.declared.ids.BoxId.{BoxId};
+ghost use Rattle.rl_base.specs.declared.ids.TrainId.{TrainId};
+ghost use Rattle.rl_base.specs.declared.layout.Layout.{Layout};
+ghost use Rattle.rl_base.specs.declared.layout.WordKind.{WordKind};
+ghost use Rattle.rl_words.specs.Word.{Word, PackedStep};
+ghost use Rattle.rl_track.specs.declared.machine.MachineMind.{MachineMind};
+ghost use Rattle.rl_track.specs.declared.track.TrackMind.{TrackMind};
+ghost use Rattle.rl_track.specs.Kept.{KeepsTrack, KeepsMachine};
+ghost use Rattle.rl_track.specs.Machine.{MachineStep, machine_on, machine_step};
+ghost use Rattle.rl_track.specs.Track.{IsTrackMind, TrackStep, track_on, track_step};
+
+use rl_words::words;
+
+/// The function of a track gives exactly the steps of the sentences: of words, and of their payloads. So it gives
+/// none exactly where no line fits, and no two lines that fit differ.
+pub fn track_lines()
+    ensures words { (t : TrainId) (mind : TrackMind) (word next : Word) (after : TrackMind)
+        → (track_on t mind word ≡ Some (next, after)) ↔ TrackStep t mind word next after }
+    ensures payloads { (t : TrainId) (mind : TrackMind) (kind : WordKind) (payload new : ℕ) (after : TrackMind)
+        → (track_step t mind kind payload ≡ Some (new, after)) ↔ PackedStep (TrackStep t mind) kind payload new after }
+    ensures one { (t : TrainId) (mind : TrackMind) (word next other : Word) (after last : TrackMind)
+        → TrackStep t mind word next after → TrackStep t mind word other last → (next ≡ other) × (after ≡ last) }
+{}
+
+/// A step of a track changes the word that it looks at and owns, leaves a value of that word there, and a
+/// well-formed mind.
+pub fn track_steps()
+    ensures { (lay : Layout) (t : TrainId) (mind : TrackMind) (kind : WordKind) (payload new : ℕ) (after : TrackMind)
+        → t.0 < lay.trains → IsTrackMind mind → track_step t mind kind payload ≡ Some (new, after)
+        → KeepsTrack lay t mind kind payload new after }
+{
+    // What is known of any word, for the proof.
+    words();
+}
+
+/// The function of a point machine gives exactly the steps of the sentences, as that of a track does.
+pub fn machine_lines()
+    ensures words { (b : BoxId) (mind : MachineMind) (word next : Word) (after : MachineMind)
+        → (machine_on b mind word ≡ Some (next, after)) ↔ MachineStep b mind word next after }
+    ensures payloads { (b : BoxId) (mind : MachineMind) (kind : WordKind) (payload new : ℕ) (after : MachineMind)
+        → (machine_step b mind kind payload ≡ Some (new, after)) ↔ PackedStep (MachineStep b mind) kind payload new after }
+    ensures one { (b : BoxId) (mind : MachineMind) (word next other : Word) (after last : MachineMind)
+        → MachineStep b mind word next after → MachineStep b mind word other last → (next ≡ other) × (after ≡ last) }
+{}
+
+/// A step of a point machine changes the word that it looks at and owns, and leaves a value of that word there.
+pub fn machine_steps()
+    ensures { (lay : Layout) (b : BoxId) (mind : MachineMind) (kind : WordKind) (payload new : ℕ) (after : MachineMind)
+        → b.0 < lay.boxes → machine_step b mind kind payload ≡ Some (new, after)
+        → KeepsMachine lay b mind kind payload new after }
+{
+    // What is known of any word, for the proof.
+    words();
+}

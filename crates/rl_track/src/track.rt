@@ -1,0 +1,127 @@
+ghost use Rattle.std.specs.Prelude.{◌≡◌, ◌<◌, ◌≤◌, IfSome};
+ghost use Rattle.rl_base.specs.declared.ids.TrainId.{TrainId};
+ghost use Rattle.rl_base.specs.Layout.{word_count, word_number};
+ghost use Rattle.rl_words.specs.Run.{FitsRun};
+ghost use Rattle.rl_words.specs.Sense.{FitsSense};
+ghost use Rattle.rl_track.specs.Track.{start_track, IsTrackMind, run_turn, sense_turn, track_step, track_target};
+
+use rl_base::{Layout, TrainId, WordKind, WordNo};
+use rl_words::{RunWord, SenseWord};
+
+/// What the track of a train has in hand: it watches for the train to go, and then it reports the head, that the
+/// train has left its segment, and the tail.
+#[derive(Clone, Copy, Debug, PartialEq, Eq)]
+pub enum TrackPhase {
+    Watch,
+    HeadDue,
+    LeaveDue,
+    TailDue,
+}
+
+/// What the track of a train remembers: the step of the route at which the train is, and what is due there.
+#[derive(Clone, Copy, Debug, PartialEq, Eq)]
+pub struct TrackMind {
+    pub step: u32,
+    pub phase: TrackPhase,
+}
+
+impl TrackMind {
+    /// Watching for the first step.
+    pub fn start() -> TrackMind
+        ensures mind { result ≡ start_track }
+        ensures kept { IsTrackMind result }
+    {
+        TrackMind {
+            step: 0,
+            phase: TrackPhase::Watch,
+        }
+    }
+
+    /// The word at which the track of the train looks.
+    pub fn target(&self, lay: &Layout, t: TrainId) -> WordNo
+        requires boxes { lay.now.boxes ≤ 128 }
+        requires trains { lay.now.trains ≤ 32 }
+        requires there { t.0 < lay.now.trains }
+        ensures number { result.0 ≡ word_number lay.now (track_target t self.now) }
+        ensures within { result.0 < word_count lay.now }
+    {
+        match self.phase {
+            TrackPhase::Watch | TrackPhase::LeaveDue => lay.word(WordKind::Run(t)),
+            TrackPhase::HeadDue | TrackPhase::TailDue => lay.word(WordKind::Sense(t)),
+        }
+    }
+
+    /// The step that fits the payload of the target: the new payload and the mind after it. `None` exactly where
+    /// no step fits.
+    #[tactic(auto, unfolding(crate::specs::Track::track_step))]
+    pub fn act(&self, payload: u32) -> Option<(u32, TrackMind)>
+        requires { IsTrackMind self.now }
+        ensures step { (t : TrainId) → result ≡ track_step t self.now (track_target t self.now) payload }
+        ensures kept { IfSome result (λ r. IsTrackMind r.1) }
+    {
+        match self.phase {
+            TrackPhase::Watch | TrackPhase::LeaveDue => {
+                let (word, after) = self.on_run(RunWord::unpack(payload)?)?;
+                Some((word.pack(), after))
+            }
+            TrackPhase::HeadDue | TrackPhase::TailDue => {
+                let (word, after) = self.on_sense(SenseWord::unpack(payload)?)?;
+                Some((word.pack(), after))
+            }
+        }
+    }
+
+    /// The train goes, or has left its segment.
+    fn on_run(&self, word: RunWord) -> Option<(RunWord, TrackMind)>
+        requires mind { IsTrackMind self.now }
+        requires word { FitsRun word }
+        ensures step { result ≡ run_turn self.now.step self.now.phase word }
+        ensures fits { IfSome result (λ r. FitsRun r.0) }
+        ensures kept { IfSome result (λ r. IsTrackMind r.1) }
+    {
+        match (self.phase, word) {
+            (TrackPhase::Watch, RunWord::Go(k)) if k == self.step => Some((
+                RunWord::Across(k),
+                TrackMind {
+                    step: k,
+                    phase: TrackPhase::HeadDue,
+                },
+            )),
+            (TrackPhase::LeaveDue, RunWord::Across(k)) if k == self.step => Some((
+                RunWord::Clear(k + 1),
+                TrackMind {
+                    step: k,
+                    phase: TrackPhase::TailDue,
+                },
+            )),
+            _ => None,
+        }
+    }
+
+    /// The head of the train is past the box, or its tail.
+    fn on_sense(&self, word: SenseWord) -> Option<(SenseWord, TrackMind)>
+        requires mind { IsTrackMind self.now }
+        requires word { FitsSense word }
+        ensures step { result ≡ sense_turn self.now.step self.now.phase word }
+        ensures fits { IfSome result (λ r. FitsSense r.0) }
+        ensures kept { IfSome result (λ r. IsTrackMind r.1) }
+    {
+        match (self.phase, word) {
+            (TrackPhase::HeadDue, SenseWord::Quiet(k)) if k == self.step => Some((
+                SenseWord::Head(k),
+                TrackMind {
+                    step: k,
+                    phase: TrackPhase::LeaveDue,
+                },
+            )),
+            (TrackPhase::TailDue, SenseWord::Head(k)) if k == self.step => Some((
+                SenseWord::Tail(k),
+                TrackMind {
+                    step: k + 1,
+                    phase: TrackPhase::Watch,
+                },
+            )),
+            _ => None,
+        }
+    }
+}

@@ -1,0 +1,4 @@
+mod KeptLemmas
+mod Sentences
+mod StepLaws
+mod Usable

@@ -1,0 +1,4 @@
+pub mod Jobs
+pub mod Kept
+pub mod Mind
+pub mod Steps

@@ -1,0 +1,111 @@
+ghost use Rattle.std.specs.Prelude.{◌≡◌, IfSome};
+ghost use Rattle.rl_words.specs.Mail.{FitsLetter, about_arm, about_passage};
+ghost use Rattle.rl_train.specs.Jobs.{letter, after_yes, after_no, asks, is_near, is_pass, ends_step};
+ghost use Rattle.rl_train.specs.Mind.{CanBeNamed};
+
+use rl_base::{Arm, BoxId, Job, Verb};
+use rl_tables::StepRow;
+use rl_words::Letter;
+
+fn about_arm(to: BoxId, verb: Verb, x: Arm) -> Letter
+    ensures { result ≡ about_arm to verb x }
+{
+    Letter {
+        to,
+        verb,
+        x,
+        y: Arm(0),
+    }
+}
+
+fn about_passage(row: &StepRow, verb: Verb) -> Letter
+    ensures { result ≡ about_passage row.now.b verb row.now.x row.now.y }
+{
+    Letter {
+        to: row.b,
+        verb,
+        x: row.x,
+        y: row.y,
+    }
+}
+
+/// What the train asks of a box in the job, at the row of its step. `None` in the job that passes.
+pub(crate) fn letter(row: &StepRow, job: Job) -> Option<Letter>
+    requires { CanBeNamed row.now }
+    ensures letter { result ≡ letter row.now job }
+    ensures fits { IfSome result FitsLetter }
+{
+    match job {
+        Job::Near => Some(about_arm(row.b, Verb::Reserve, row.y)),
+        Job::Far => Some(about_arm(row.c, Verb::Reserve, row.c_arm)),
+        Job::Lock => Some(about_passage(row, Verb::Lock)),
+        Job::Pass => None,
+        Job::Unlock => Some(about_passage(row, Verb::Unlock)),
+        Job::FreeNear => Some(about_arm(row.b, Verb::Release, row.x)),
+        Job::FreeFar => Some(about_arm(row.a, Verb::Release, row.a_arm)),
+        Job::DropFar => Some(about_arm(row.c, Verb::Release, row.c_arm)),
+        Job::DropNear => Some(about_arm(row.b, Verb::Release, row.y)),
+    }
+}
+
+/// Whether the job asks by this letter.
+pub(crate) fn asks(row: &StepRow, job: Job, by: &Letter) -> bool
+    requires { CanBeNamed row.now }
+    ensures { result ≡ asks row.now job by.now }
+{
+    match letter(row, job) {
+        Some(own) => own.is_same(by),
+        None => false,
+    }
+}
+
+/// The job after yes, and after the passage, at the row of the step.
+pub(crate) fn after_yes(_row: &StepRow, job: Job) -> Job
+    ensures { result ≡ after_yes _row.now job }
+{
+    match job {
+        Job::Near => Job::Far,
+        Job::Far => Job::Lock,
+        Job::Lock => Job::Pass,
+        Job::Pass => Job::Unlock,
+        Job::Unlock => Job::FreeNear,
+        Job::FreeNear => Job::FreeFar,
+        Job::FreeFar => Job::Near,
+        Job::DropFar => Job::DropNear,
+        Job::DropNear => Job::Near,
+    }
+}
+
+/// The job after no, at the row of the step. A release and an unlock are never refused.
+pub(crate) fn after_no(_row: &StepRow, job: Job) -> Option<Job>
+    ensures { result ≡ after_no _row.now job }
+{
+    match job {
+        Job::Near => Some(Job::Near),
+        Job::Far => Some(Job::DropNear),
+        Job::Lock => Some(Job::DropFar),
+        Job::Pass | Job::Unlock | Job::FreeNear | Job::FreeFar | Job::DropFar | Job::DropNear =>
+            None,
+    }
+}
+
+/// Whether a post in this job opens an attempt.
+pub(crate) fn is_near(job: Job) -> bool
+    ensures { result ≡ is_near job }
+{
+    matches!(job, Job::Near)
+}
+
+/// Whether this is the job without a letter.
+pub(crate) fn is_pass(job: Job) -> bool
+    ensures { result ≡ is_pass job }
+{
+    matches!(job, Job::Pass)
+}
+
+/// Whether the job ends the step.
+pub(crate) fn ends_step(job: Job) -> bool
+    ensures { result ≡ ends_step job }
+{
+    matches!(job, Job::FreeFar)
+}
