@@ -13,10 +13,11 @@ use crate::judge::Judge;
 use crate::laws::one_verdict;
 use crate::verdict::Verdict;
 use rl_base::TrainId;
+use rl_base::limits::{MAX_MOVES, MAX_REPORT_BYTES};
 use rl_model::laws::safe_runs;
 use rl_net::Network;
 use rl_report::laws::{one_reading, reading_laws};
-use rl_report::{LONGEST_TEXT, MOST_MOVES, ReportLines, ReportRefusal};
+use rl_report::{ReportLines, ReportRefusal};
 use std::alloc::Global;
 
 /// Reads and judges the lines of the moves, to the first that is none.
@@ -33,7 +34,7 @@ fn judge_moves(
     // The laws of reading, for the proof.
     reading_laws();
     while let Some(m) = lines.next_move(net) {
-        if judge.moves == MOST_MOVES {
+        if judge.moves == MAX_MOVES as u32 {
             return Err(ReportRefusal::Long);
         }
         judge.take_move(net, m);
@@ -102,7 +103,7 @@ fn audit_text(alloc: Global, net: &Network, text: &[u8]) -> Result<Verdict, Repo
     // The laws of reading, and what acceptance gave, for the proof.
     reading_laws();
     let _trains = net.trains();
-    if text.len() > LONGEST_TEXT {
+    if text.len() > MAX_REPORT_BYTES {
         return Err(ReportRefusal::Long);
     }
     let mut judge = Judge::start(alloc, net)?;

@@ -2,6 +2,7 @@
 -- it must be.
 use Rattle.std.specs.Prelude.{◌≡◌, ℕ, ◌+◌, ◌-◌, ◌<◌, true, List, [], ◌∷◌, ◌++◌, length, slice_get, Some, ◌⊎◌}
 use Rattle.std.specs.List.{join_with_byte}
+use Rattle.rl_base.specs.declared.limits.TheConstants.{MAX_MOVES}
 use Rattle.rl_text.specs.Lines.{Line, lines_of, longest_text}
 use Rattle.rl_model.specs.declared.moves.Move.{Move}
 use Rattle.rl_model.specs.declared.network.NetworkPlan.{NetworkPlan}
@@ -17,7 +18,7 @@ pub record IsMoveLine (net : NetworkPlan) (text : List ℕ) (m : Move) : Type 0 
   pub of : IsMoveOf net m
   pub line : text ++ 10 ∷ [] ≡ move_line net m
 
--- with an LF behind it the text is the line of train t with that outcome, whose numbers are at most 1,000,000
+-- with an LF behind it the text is the line of train t with that outcome, whose numbers may stand there
 pub record IsOutcomeLine (net : NetworkPlan) (text : List ℕ) (t : ℕ) (o : Outcome) : Type 0 where
   pub train : t < length net.trains
   pub made : IsCount o.made
@@ -47,7 +48,7 @@ whole_line words = record { text = join_with_byte 32 words; whole = true }
 
 -- how many moves a report may have
 abbrev pub most_moves : ℕ
-most_moves = 1000000
+most_moves = MAX_MOVES
 
 -- the line at place i is that of a move
 abbrev pub HasMoveAt : NetworkPlan → List ℕ → ℕ → Type 0

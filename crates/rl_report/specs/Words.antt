@@ -2,6 +2,7 @@
 use Rattle.std.specs.Prelude.{ℕ, ◌≤◌, List, [], ◌∷◌, codes, decimal, Option}
 use Rattle.std.specs.Option.{option_map_or}
 use Rattle.std.specs.Borrow.{Bor}
+use Rattle.rl_base.specs.declared.limits.TheConstants.{MAX_MOVES}
 use Rattle.rl_text.specs.Words.{words_of}
 use Rattle.rl_model.specs.declared.network.NetworkPlan.{NetworkPlan}
 use Rattle.rl_model.specs.declared.report.Outcome.{Outcome}
@@ -18,4 +19,4 @@ outcome_words net t o = codes "train" ∷ train_name net t ∷ fate_word o.fate 
 
 -- a number that a train's line may have
 abbrev pub IsCount : ℕ → Type 0
-IsCount n = n ≤ 1000000
+IsCount n = n ≤ MAX_MOVES

@@ -16,7 +16,7 @@ mod words;
 
 pub use moves::read_move;
 pub use outcomes::read_outcome;
-pub use read::{LONGEST_TEXT, MOST_MOVES, read_report};
+pub use read::read_report;
 pub use reader::ReportLines;
 pub use refusal::ReportRefusal;
 pub use report::report_text;

@@ -1,5 +1,6 @@
 ghost use Rattle.std.specs.Prelude.{◌≡◌, ◌≢◌, ◌≤◌, ◌∷◌, [], ℕ, List, IfSome, IfNone, codes, decimal};
 ghost use Rattle.rl_base.specs.declared.ids.TrainId.{TrainId};
+ghost use Rattle.rl_base.specs.declared.limits.TheConstants.{MIN_TRIES, MAX_TRIES};
 ghost use Rattle.rl_model.specs.declared.report.Fate.{Fate};
 ghost use Rattle.rl_model.specs.declared.report.Outcome.{Outcome};
 ghost use Rattle.rl_model.specs.Network.{IsTrainOf};
@@ -9,12 +10,10 @@ ghost use Rattle.rl_report.specs.Grammar.{IsOutcomeLine};
 
 use crate::words::Words;
 use rl_base::TrainId;
+use rl_base::limits::{MAX_MOVES, MAX_TRIES, MIN_TRIES};
 use rl_model::{Fate, Outcome};
 use rl_net::Network;
 use rl_text::read_number;
-
-/// The greatest number that a train's line may have.
-const MOST: u64 = 1_000_000;
 
 /// The fate of that name.
 fn fate_of(word: &[u8]) -> Option<Fate>
@@ -32,13 +31,13 @@ fn fate_of(word: &[u8]) -> Option<Fate>
     }
 }
 
-/// The number that the word writes, if it is at most 1,000,000.
+/// The number that the word writes, if it is at most `MAX_MOVES`.
 fn count_of(word: &[u8]) -> Option<u32>
     ensures some { IfSome result (λ n. IsCount n × (word.now ≡ decimal n)) }
     ensures none { IfNone result ((n : ℕ) → IsCount n → word.now ≢ decimal n) }
 {
     match read_number(word) {
-        Some(n) if n <= MOST => Some(n as u32),
+        Some(n) if n <= MAX_MOVES as u64 => Some(n as u32),
         _ => None,
     }
 }
@@ -107,21 +106,23 @@ pub fn read_outcome(net: &Network, line: &[u8]) -> Option<(TrainId, Outcome)>
     read_outcome_words(&mut Words::new(line), net)
 }
 
-/// The number that the word writes, if it is one of attempts, from 1 to 1000.
+/// The number that the word writes, if it is one of attempts.
 fn tries_of(word: &[u8]) -> Option<u32>
-    ensures some { IfSome result (λ n. (1 ≤ n) × (n ≤ 1000) × (word.now ≡ decimal n)) }
-    ensures none { IfNone result ((n : ℕ) → 1 ≤ n → n ≤ 1000 → word.now ≢ decimal n) }
+    ensures some { IfSome result (λ n. (MIN_TRIES ≤ n) × (n ≤ MAX_TRIES) × (word.now ≡ decimal n)) }
+    ensures none { IfNone result ((n : ℕ) → MIN_TRIES ≤ n → n ≤ MAX_TRIES → word.now ≢ decimal n) }
 {
     match read_number(word) {
-        Some(n) if 1 <= n && n <= 1000 => Some(n as u32),
+        Some(n) if u64::from(MIN_TRIES) <= n && n <= u64::from(MAX_TRIES) => Some(n as u32),
         _ => None,
     }
 }
 
 /// Reads the words of the second line: the attempts.
 pub(crate) fn read_tries(words: &mut Words<'_>) -> Option<u32>
-    ensures some { IfSome result (λ n. (1 ≤ n) × (n ≤ 1000) × (words.old ≡ codes "tries" ∷ decimal n ∷ [])) }
-    ensures none { IfNone result ((n : ℕ) → 1 ≤ n → n ≤ 1000 → words.old ≢ codes "tries" ∷ decimal n ∷ []) }
+    ensures some { IfSome result (λ n. (MIN_TRIES ≤ n) × (n ≤ MAX_TRIES)
+        × (words.old ≡ codes "tries" ∷ decimal n ∷ [])) }
+    ensures none { IfNone result ((n : ℕ) → MIN_TRIES ≤ n → n ≤ MAX_TRIES
+        → words.old ≢ codes "tries" ∷ decimal n ∷ []) }
 {
     if words.next()? != b"tries".as_slice() {
         return None;

@@ -14,15 +14,10 @@ use crate::laws::one_reading;
 use crate::reader::ReportLines;
 use crate::refusal::ReportRefusal;
 use rl_base::TrainId;
+use rl_base::limits::{MAX_MOVES, MAX_REPORT_BYTES};
 use rl_model::{Moves, Outcomes, Report};
 use rl_net::Network;
 use std::alloc::Global;
-
-/// How many bytes the text of a report may have.
-pub const LONGEST_TEXT: usize = 134_217_728;
-
-/// How many moves a report may have.
-pub const MOST_MOVES: u32 = 1_000_000;
 
 /// Reads the lines of the moves, to the first that is none.
 fn read_moves(
@@ -38,7 +33,7 @@ fn read_moves(
 {
     let mut moves = Moves::new(alloc);
     while let Some(m) = lines.next_move(net) {
-        if moves.len() == MOST_MOVES as usize {
+        if moves.len() == MAX_MOVES {
             return Err(ReportRefusal::Long);
         }
         moves.push(m)?;
@@ -103,7 +98,7 @@ fn read_text(alloc: Global, net: &Network, text: &[u8]) -> Result<Report, Report
 {
     // What acceptance gave, for the proof.
     let _trains = net.trains();
-    if text.len() > LONGEST_TEXT {
+    if text.len() > MAX_REPORT_BYTES {
         return Err(ReportRefusal::Long);
     }
     let mut lines = ReportLines::new(text);
@@ -116,7 +111,7 @@ fn read_text(alloc: Global, net: &Network, text: &[u8]) -> Result<Report, Report
 }
 
 /// The report whose text this is. A refusal is the first fault of the text, or that it is too long, which is
-/// looked for before. What `report_text` writes of a report of at most 1,000,000 moves is read as that report.
+/// looked for before. What `report_text` writes of a report of at most `MAX_MOVES` moves is read as that report.
 pub fn read_report(alloc: Global, net: &Network, text: &[u8]) -> Result<Report, ReportRefusal>
     ensures reads { ReadsAs net.now text.now result }
     ensures complete { (report : Report) → IsTextOf net.now report text.now → length report.moves ≤ most_moves
