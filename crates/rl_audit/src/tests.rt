@@ -9,7 +9,7 @@ use rl_base::{
     name_ok,
 };
 use rl_net::{Network, check};
-use rl_report::{read_report, report_text};
+use rl_report::read_report;
 use std::alloc::Global;
 use std::process::Abort;
 use std::test::Fail;
@@ -25,249 +25,101 @@ const LINE_OF_TWO: &str = "A B/buffer W A/joint J1 A B/buffer E B/train T1 A J1 
 const FORK_OF_TWO: &str =
     "S L R/buffer W S/left P S L R/buffer EL L/buffer ER R/train T1 S P R/train T2 L P S";
 
-/// The moves of the one train on the line.
-const PASSAGE: &str = "reserve T1 B J1\nreserve T1 B E\nlock T1 J1 A B\nenter T1 J1 A B\nleave T1 A
-unlock T1 J1\nrelease T1 A J1\nrelease T1 A W\n";
+/// Reports of the line, each with its verdict: the number of its moves where it is safe, and else the line and the
+/// guard. A stroke is the end of a line.
+const VERDICTS: &str = "\
+8 = reserve T1 B J1|reserve T1 B E|lock T1 J1 A B|enter T1 J1 A B|leave T1 A|unlock T1 J1|release T1 A J1|\
+release T1 A W|train T1 arrived 1 0|
+11 25 = reserve T1 B J1|reserve T1 B E|lock T1 J1 A B|enter T1 J1 A B|leave T1 A|unlock T1 J1|release T1 A J1|\
+release T1 A W|train T1 arrived 1 1|
+11 26 = reserve T1 B J1|reserve T1 B E|lock T1 J1 A B|enter T1 J1 A B|leave T1 A|unlock T1 J1|release T1 A J1|\
+release T1 A W|train T1 spent 1 0|
+5 18 = reserve T1 B J1|lock T1 J1 A B|enter T1 J1 A B|leave T1 A|train T1 arrived 1 0|
+5 19 = reserve T1 B J1|reserve T1 B E|enter T1 J1 A B|lock T1 J1 A B|leave T1 A|train T1 arrived 1 0|
+3 25 = train T1 underway 0 1000000|
+";
 
-/// Two outcomes that fit where nobody moved.
-const TWO_UNDERWAY: &str = "train T1 underway 0 0\ntrain T2 underway 0 0\n";
+/// The same of the line with two trains.
+const VERDICTS_OF_TWO: &str = "\
+2 = refuse T1 B J1 T2|refuse T1 B J1 T2|train T1 underway 0 2|train T2 arrived 0 0|
+3 23 = refuse T1 B J1 T1|refuse T1 B J1 T2|train T1 underway 0 2|train T2 arrived 0 0|
+";
 
-/// A network, the moves and the outcomes of a report, and its verdict.
-const VERDICTS: [(&str, &str, &str, Verdict); 9] = [
-    (LINE, PASSAGE, "train T1 arrived 1 0\n", Verdict::Safe(8)),
-    (
-        LINE,
-        PASSAGE,
-        "train T1 arrived 1 1\n",
-        Verdict::Bad {
-            line: 11,
-            guard: 25,
-        },
-    ),
-    (
-        LINE,
-        PASSAGE,
-        "train T1 spent 1 0\n",
-        Verdict::Bad {
-            line: 11,
-            guard: 26,
-        },
-    ),
-    (
-        LINE,
-        "reserve T1 B J1\nlock T1 J1 A B\nenter T1 J1 A B\nleave T1 A\n",
-        "train T1 arrived 1 0\n",
-        Verdict::Bad { line: 5, guard: 18 },
-    ),
-    (
-        LINE,
-        "reserve T1 B J1\nreserve T1 B E\nenter T1 J1 A B\nlock T1 J1 A B\nleave T1 A\n",
-        "train T1 arrived 1 0\n",
-        Verdict::Bad { line: 5, guard: 19 },
-    ),
-    (
-        LINE_OF_TWO,
-        "refuse T1 B J1 T2\nrefuse T1 B J1 T2\n",
-        "train T1 underway 0 2\ntrain T2 arrived 0 0\n",
-        Verdict::Safe(2),
-    ),
-    (
-        LINE_OF_TWO,
-        "refuse T1 B J1 T1\nrefuse T1 B J1 T2\n",
-        "train T1 underway 0 2\ntrain T2 arrived 0 0\n",
-        Verdict::Bad { line: 3, guard: 23 },
-    ),
-    (
-        FORK_OF_TWO,
-        "reserve T1 R P\nreserve T1 R ER\nlock T1 P S R\nthrow P\nsettle P right\nbar T2 P T1
-refuse T2 S P T1\nenter T1 P S R\nleave T1 S\nunlock T1 P\nrelease T1 S P\nrelease T1 S W\n",
-        "train T1 arrived 1 0\ntrain T2 underway 0 2\n",
-        Verdict::Safe(12),
-    ),
-    (
-        LINE,
-        "",
-        "train T1 underway 0 1000000\n",
-        Verdict::Bad { line: 3, guard: 25 },
-    ),
-];
+/// The same of the fork: a report with each of the ten moves.
+const VERDICTS_OF_FORK: &str = "\
+12 = reserve T1 R P|reserve T1 R ER|lock T1 P S R|throw P|settle P right|bar T2 P T1|refuse T2 S P T1|\
+enter T1 P S R|leave T1 S|unlock T1 P|release T1 S P|release T1 S W|train T1 arrived 1 0|train T2 underway 0 2|
+";
 
-/// For each guard, moves at whose last it is the first that fails, and the line of that move.
-const GUARDS: [(u32, &str, u32); 24] = [
-    (1, "reserve T1 R W\n", 3),
-    (2, "reserve T1 L P\n", 3),
-    (3, "release T1 S ER\n", 3),
-    (4, "release T1 R P\n", 3),
-    (5, "release T1 S P\n", 3),
-    (6, "lock T1 P S S\n", 3),
-    (7, "reserve T1 R P\nlock T1 P S R\nlock T2 P L S\n", 5),
-    (8, "lock T1 P S R\n", 3),
-    (9, "reserve T2 R P\nlock T2 P L R\n", 4),
-    (10, "unlock T1 P\n", 3),
-    (
-        11,
-        "reserve T1 R P\nreserve T1 R ER\nlock T1 P S R\nthrow P\nsettle P right\nenter T1 P S R\nunlock T1 P\n",
-        9,
-    ),
-    (12, "throw P\n", 3),
-    (
-        13,
-        "reserve T1 R P\nlock T1 P S R\nthrow P\nsettle P right\nthrow P\n",
-        7,
-    ),
-    (14, "settle P left\n", 3),
-    (
-        15,
-        "reserve T1 R P\nlock T1 P S R\nthrow P\nsettle P left\n",
-        6,
-    ),
-    (16, "enter T1 P S L\n", 3),
-    (
-        17,
-        "reserve T1 R P\nreserve T1 R ER\nlock T1 P S R\nthrow P\nsettle P right\nenter T1 P S R\nenter T1 P S R\n",
-        9,
-    ),
-    (18, "enter T1 P S R\n", 3),
-    (19, "reserve T1 R P\nreserve T1 R ER\nenter T1 P S R\n", 5),
-    (
-        20,
-        "reserve T1 R P\nreserve T1 R ER\nlock T1 P S R\nenter T1 P S R\n",
-        6,
-    ),
-    (21, "leave T1 S\n", 3),
-    (22, "refuse T1 L W T2\n", 3),
-    (23, "refuse T1 R P T2\n", 3),
-    (24, "bar T2 P T1\n", 3),
-];
+/// For each guard, moves on the fork at whose last it is the first that fails.
+const GUARDS: &str = "\
+3 1 = reserve T1 R W|
+3 2 = reserve T1 L P|
+3 3 = release T1 S ER|
+3 4 = release T1 R P|
+3 5 = release T1 S P|
+3 6 = lock T1 P S S|
+5 7 = reserve T1 R P|lock T1 P S R|lock T2 P L S|
+3 8 = lock T1 P S R|
+4 9 = reserve T2 R P|lock T2 P L R|
+3 10 = unlock T1 P|
+9 11 = reserve T1 R P|reserve T1 R ER|lock T1 P S R|throw P|settle P right|enter T1 P S R|unlock T1 P|
+3 12 = throw P|
+7 13 = reserve T1 R P|lock T1 P S R|throw P|settle P right|throw P|
+3 14 = settle P left|
+6 15 = reserve T1 R P|lock T1 P S R|throw P|settle P left|
+3 16 = enter T1 P S L|
+9 17 = reserve T1 R P|reserve T1 R ER|lock T1 P S R|throw P|settle P right|enter T1 P S R|enter T1 P S R|
+3 18 = enter T1 P S R|
+5 19 = reserve T1 R P|reserve T1 R ER|enter T1 P S R|
+6 20 = reserve T1 R P|reserve T1 R ER|lock T1 P S R|enter T1 P S R|
+3 21 = leave T1 S|
+3 22 = refuse T1 L W T2|
+3 23 = refuse T1 R P T2|
+3 24 = bar T2 P T1|
+";
 
 /// Texts that are no reports of the line, each with the number of its first fault.
-const FAULTS: [(&str, u32); 41] = [
-    ("", 1),
-    ("\n", 1),
-    ("relis report 1", 1),
-    (
-        "relis report 1\r\ntries 100\ntrain T1 underway 0 0\nend\n",
-        1,
-    ),
-    (
-        " relis report 1\ntries 100\ntrain T1 underway 0 0\nend\n",
-        1,
-    ),
-    (
-        "relis  report 1\ntries 100\ntrain T1 underway 0 0\nend\n",
-        1,
-    ),
-    ("relis report 2\ntries 100\ntrain T1 underway 0 0\nend\n", 1),
-    ("relis report 1\n", 2),
-    ("relis report 1\ntries 0\ntrain T1 underway 0 0\nend\n", 2),
-    (
-        "relis report 1\ntries 1001\ntrain T1 underway 0 0\nend\n",
-        2,
-    ),
-    (
-        "relis report 1\ntries 0100\ntrain T1 underway 0 0\nend\n",
-        2,
-    ),
-    (
-        "relis report 1\ntries 100 \ntrain T1 underway 0 0\nend\n",
-        2,
-    ),
-    ("relis report 1\ntries\ntrain T1 underway 0 0\nend\n", 2),
-    (
-        "relis report 1\ntries 100\nleave T1  A\ntrain T1 underway 0 0\nend\n",
-        3,
-    ),
-    (
-        "relis report 1\ntries 100\nleave T1 A \ntrain T1 underway 0 0\nend\n",
-        3,
-    ),
-    (
-        "relis report 1\ntries 100\nleave T1 A\r\ntrain T1 underway 0 0\nend\n",
-        3,
-    ),
-    (
-        "relis report 1\ntries 100\nleave T1 A\0\ntrain T1 underway 0 0\nend\n",
-        3,
-    ),
-    (
-        "relis report 1\ntries 100\nleave T1 J1\ntrain T1 underway 0 0\nend\n",
-        3,
-    ),
-    (
-        "relis report 1\ntries 100\nleave T9 A\ntrain T1 underway 0 0\nend\n",
-        3,
-    ),
-    (
-        "relis report 1\ntries 100\nleave A A\ntrain T1 underway 0 0\nend\n",
-        3,
-    ),
-    (
-        "relis report 1\ntries 100\nLeave T1 A\ntrain T1 underway 0 0\nend\n",
-        3,
-    ),
-    (
-        "relis report 1\ntries 100\nleave T1\ntrain T1 underway 0 0\nend\n",
-        3,
-    ),
-    (
-        "relis report 1\ntries 100\nleave T1 A B\ntrain T1 underway 0 0\nend\n",
-        3,
-    ),
-    (
-        "relis report 1\ntries 100\nsettle J1 up\ntrain T1 underway 0 0\nend\n",
-        3,
-    ),
-    (
-        "relis report 1\ntries 100\nturn T1\ntrain T1 underway 0 0\nend\n",
-        3,
-    ),
-    (
-        "relis report 1\ntries 100\n\ntrain T1 underway 0 0\nend\n",
-        3,
-    ),
-    ("relis report 1\ntries 100\nend\n", 3),
-    (
-        "relis report 1\ntries 100\ntrain T1 underway 00 0\nend\n",
-        3,
-    ),
-    (
-        "relis report 1\ntries 100\ntrain T1 underway 0 1000001\nend\n",
-        3,
-    ),
-    (
-        "relis report 1\ntries 100\ntrain T1 underway 0 -1\nend\n",
-        3,
-    ),
-    ("relis report 1\ntries 100\ntrain T1 gone 0 0\nend\n", 3),
-    ("relis report 1\ntries 100\ntrain J1 underway 0 0\nend\n", 3),
-    ("relis report 1\ntries 100\ntrain T1 underway 0\nend\n", 3),
-    (
-        "relis report 1\ntries 100\ntrain T1 underway 0 0\ntrain T1 underway 0 0\nend\n",
-        4,
-    ),
-    (
-        "relis report 1\ntries 100\ntrain T1 underway 0 0\nleave T1 A\nend\n",
-        4,
-    ),
-    (
-        "relis report 1\ntries 100\ntrain T1 underway 0 0\nend \n",
-        4,
-    ),
-    ("relis report 1\ntries 100\ntrain T1 underway 0 0\nEnd\n", 4),
-    ("relis report 1\ntries 100\ntrain T1 underway 0 0\nend", 4),
-    (
-        "relis report 1\ntries 100\ntrain T1 underway 0 0\nend\nend\n",
-        5,
-    ),
-    (
-        "relis report 1\ntries 100\ntrain T1 underway 0 0\nend\n\n",
-        5,
-    ),
-    (
-        "relis report 1\ntries 100\ntrain T1 underway 0 0\nend\nx",
-        5,
-    ),
-];
+const FAULTS: &str = "\
+1 = 
+1 = |
+1 = relis report 1
+1 =  relis report 1|tries 100|train T1 underway 0 0|end|
+1 = relis  report 1|tries 100|train T1 underway 0 0|end|
+1 = relis report 2|tries 100|train T1 underway 0 0|end|
+2 = relis report 1|
+2 = relis report 1|tries 0|train T1 underway 0 0|end|
+2 = relis report 1|tries 1001|train T1 underway 0 0|end|
+2 = relis report 1|tries 0100|train T1 underway 0 0|end|
+2 = relis report 1|tries 100 |train T1 underway 0 0|end|
+2 = relis report 1|tries|train T1 underway 0 0|end|
+3 = relis report 1|tries 100|leave T1  A|train T1 underway 0 0|end|
+3 = relis report 1|tries 100|leave T1 A |train T1 underway 0 0|end|
+3 = relis report 1|tries 100|leave T1 J1|train T1 underway 0 0|end|
+3 = relis report 1|tries 100|leave T9 A|train T1 underway 0 0|end|
+3 = relis report 1|tries 100|leave A A|train T1 underway 0 0|end|
+3 = relis report 1|tries 100|Leave T1 A|train T1 underway 0 0|end|
+3 = relis report 1|tries 100|leave T1|train T1 underway 0 0|end|
+3 = relis report 1|tries 100|leave T1 A B|train T1 underway 0 0|end|
+3 = relis report 1|tries 100|settle J1 up|train T1 underway 0 0|end|
+3 = relis report 1|tries 100|turn T1|train T1 underway 0 0|end|
+3 = relis report 1|tries 100||train T1 underway 0 0|end|
+3 = relis report 1|tries 100|end|
+3 = relis report 1|tries 100|train T1 underway 00 0|end|
+3 = relis report 1|tries 100|train T1 underway 0 1000001|end|
+3 = relis report 1|tries 100|train T1 underway 0 -1|end|
+3 = relis report 1|tries 100|train T1 gone 0 0|end|
+3 = relis report 1|tries 100|train J1 underway 0 0|end|
+3 = relis report 1|tries 100|train T1 underway 0|end|
+4 = relis report 1|tries 100|train T1 underway 0 0|train T1 underway 0 0|end|
+4 = relis report 1|tries 100|train T1 underway 0 0|leave T1 A|end|
+4 = relis report 1|tries 100|train T1 underway 0 0|end |
+4 = relis report 1|tries 100|train T1 underway 0 0|End|
+4 = relis report 1|tries 100|train T1 underway 0 0|end
+5 = relis report 1|tries 100|train T1 underway 0 0|end|end|
+5 = relis report 1|tries 100|train T1 underway 0 0|end||
+5 = relis report 1|tries 100|train T1 underway 0 0|end|x
+";
 
 fn are_names(names: &[Name]) -> bool
     ensures { result ≡ list_all is_name names.now }
@@ -368,88 +220,81 @@ fn network_of(rt: &impl Abort, alloc: Global, text: &str) -> Result<Network, Fai
     Ok(check(alloc, draft)?)
 }
 
-/// A report of 100 attempts with these moves and outcomes.
-fn report_of(alloc: Global, moves: &str, outcomes: &str) -> Result<Vec<u8>, NoMemory> {
-    let mut text = Vec::new(alloc);
-    text.extend_from_slice(b"relis report 1\ntries 100\n")?;
-    text.extend_from_slice(moves.as_bytes())?;
-    text.extend_from_slice(outcomes.as_bytes())?;
-    text.extend_from_slice(b"end\n")?;
-    Ok(text)
-}
-
-/// Asserts the verdict, and that the report is read and written again as it was.
-fn assert_verdict(
-    rt: &impl Abort,
-    alloc: Global,
-    net: &Network,
-    text: &[u8],
-    want: Verdict,
-) -> Result<(), Fail> {
-    assert_eq!(rt; audit(alloc, net, text), Ok(want));
-    match read_report(alloc, net, text) {
-        Ok(report) => {
-            let trains = net.trains() as usize;
-            assert_eq!(rt; report.outcomes.len(), trains);
-        }
-        Err(refusal) => assert_eq!(rt; refusal, ReportRefusal::Long, "isn't read"),
+/// Appends the text, in which a stroke is the end of a line.
+fn put_text(text: &mut Vec<u8>, short: &str) -> Result<(), NoMemory> {
+    for byte in short.bytes() {
+        text.push(if byte == b'|' { b'\n' } else { byte })?;
     }
     Ok(())
 }
 
-/// Asserts that both readings refuse the text at the line.
-fn assert_fault(rt: &impl Abort, alloc: Global, net: &Network, text: &[u8], line: u32) {
-    let want = ReportRefusal::Line(line);
-    assert_eq!(rt; audit(alloc, net, text), Err(want));
-    let read = read_report(alloc, net, text).err();
-    assert_eq!(rt; read, Some(want));
+/// A report of 100 attempts with these lines of moves and outcomes.
+fn report_of(alloc: Global, lines: &str, outcomes: &str) -> Result<Vec<u8>, NoMemory> {
+    let mut text = Vec::new(alloc);
+    text.extend_from_slice(b"relis report 1\ntries 100\n")?;
+    put_text(&mut text, lines)?;
+    put_text(&mut text, outcomes)?;
+    text.extend_from_slice(b"end\n")?;
+    Ok(text)
+}
+
+/// What the audit of the text answers, in the words of the tables.
+fn answer_of(alloc: Global, net: &Network, text: &[u8]) -> Result<String, NoMemory> {
+    Ok(match audit(alloc, net, text) {
+        Ok(Verdict::Safe(moves)) => format!(in alloc; "{moves}")?,
+        Ok(Verdict::Bad { line, guard }) => format!(in alloc; "{line} {guard}")?,
+        Err(ReportRefusal::Line(line)) => format!(in alloc; "{line}")?,
+        Err(_) => format!(in alloc; "none")?,
+    })
+}
+
+/// Asserts each verdict of a table.
+fn assert_verdicts(
+    rt: &impl Abort,
+    alloc: Global,
+    short: &str,
+    table: &str,
+    outcomes: &str,
+) -> Result<(), Fail> {
+    let net = network_of(rt, alloc, short)?;
+    for case in table.lines() {
+        let (want, lines) = case.split_once(" = ").unwrap_or((case, ""));
+        let text = report_of(alloc, lines, outcomes)?;
+        let answer = answer_of(alloc, &net, text.as_slice())?;
+        assert_eq!(rt; answer.as_str(), want);
+        assert!(rt; read_report(alloc, &net, text.as_slice()).is_ok(), "{case}");
+    }
+    Ok(())
 }
 
 #[test]
 fn judges_reports(rt: HostRuntime) -> Result<(), Fail> {
     let alloc = rt.alloc();
-    for (short, moves, outcomes, want) in VERDICTS {
-        let net = network_of(&rt, alloc, short)?;
-        let text = report_of(alloc, moves, outcomes)?;
-        assert_verdict(&rt, alloc, &net, text.as_slice(), want)?;
-    }
-    Ok(())
+    assert_verdicts(&rt, alloc, LINE, VERDICTS, "")?;
+    assert_verdicts(&rt, alloc, LINE_OF_TWO, VERDICTS_OF_TWO, "")?;
+    assert_verdicts(&rt, alloc, FORK_OF_TWO, VERDICTS_OF_FORK, "")
 }
 
 #[test]
 fn names_each_guard(rt: HostRuntime) -> Result<(), Fail> {
-    let alloc = rt.alloc();
-    let net = network_of(&rt, alloc, FORK_OF_TWO)?;
-    for (guard, moves, line) in GUARDS {
-        let text = report_of(alloc, moves, TWO_UNDERWAY)?;
-        assert_verdict(
-            &rt,
-            alloc,
-            &net,
-            text.as_slice(),
-            Verdict::Bad { line, guard },
-        )?;
-    }
-    Ok(())
+    let outcomes = "train T1 underway 0 0|train T2 underway 0 0|";
+    assert_verdicts(&rt, rt.alloc(), FORK_OF_TWO, GUARDS, outcomes)
 }
 
 #[test]
 fn names_the_first_fault(rt: HostRuntime) -> Result<(), Fail> {
     let alloc = rt.alloc();
     let net = network_of(&rt, alloc, LINE)?;
-    for (text, line) in FAULTS {
-        assert_fault(&rt, alloc, &net, text.as_bytes(), line);
-    }
-    let two = network_of(&rt, alloc, LINE_OF_TWO)?;
-    let turned = report_of(alloc, "", "train T2 underway 0 0\ntrain T1 underway 0 0\n")?;
-    assert_fault(&rt, alloc, &two, turned.as_slice(), 3);
-    let whole = report_of(alloc, PASSAGE, "train T1 arrived 1 0\n")?;
-    let mut line = 1;
-    for n in 0..whole.len() {
-        assert_fault(&rt, alloc, &net, &whole.as_slice()[..n], line);
-        if whole[n] == b'\n' && line < 1000 {
-            line += 1;
-        }
+    for case in FAULTS.lines() {
+        let (want, short) = case.split_once(" = ").unwrap_or((case, ""));
+        let mut text = Vec::new(alloc);
+        put_text(&mut text, short)?;
+        let answer = answer_of(alloc, &net, text.as_slice())?;
+        assert_eq!(rt; answer.as_str(), want);
+        assert!(rt;
+            read_report(alloc, &net, text.as_slice()).is_err(),
+            "{case}"
+        );
     }
     Ok(())
 }
