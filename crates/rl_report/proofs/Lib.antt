@@ -1,0 +1,12 @@
+pub mod WordsOf
+pub mod NamedMoves
+pub mod Plain
+pub mod Joined
+pub mod Within
+pub mod ReadLines
+pub mod LinesOf
+pub mod Agreement
+pub mod Faults
+pub mod Steps
+pub mod OneReading
+pub mod Short
