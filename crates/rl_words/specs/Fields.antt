@@ -1,3 +1,4 @@
+-- Bit fields of a number: what some of its bits say, and the number with those bits written.
 use Rattle.std.specs.Prelude.{ℕ, ◌+◌, ◌*◌, ◌/◌, ◌%◌, ◌^◌}
 
 -- what the n bits of the number x from bit i on say

@@ -1,3 +1,4 @@
+-- The mail word of a train: what fits it, its bits, and its packing.
 use Rattle.std.specs.Prelude.{◌≡◌, ◌≢◌, ℕ, ◌+◌, ◌*◌, ◌^◌, ◌<◌, ◌==◌, Bool, ◌&&◌}
 use Rattle.rl_base.specs.declared.ids.Arm.{Arm}
 use Rattle.rl_base.specs.declared.ids.BoxId.{BoxId}

@@ -1,3 +1,4 @@
+-- The owner of a word: at each value, the one node that may change it.
 use Rattle.std.specs.Prelude.{◌≡◌, ℕ}
 use Rattle.rl_base.specs.declared.ids.BoxId.{BoxId}
 use Rattle.rl_base.specs.declared.ids.TrainId.{TrainId}

@@ -1,3 +1,4 @@
+-- The reservation word of a box: what fits it, its bits, and its packing.
 use Rattle.std.specs.Prelude.{ℕ, ◌==◌, ◌+◌, ◌*◌, ◌^◌, ◌<◌, Option, Some, None, if◌then◌else◌}
 use Rattle.rl_base.specs.declared.ids.TrainId.{TrainId}
 use Rattle.rl_words.specs.declared.resv.ResvWord.{ResvWord}

@@ -1,3 +1,4 @@
+-- A shared word as its stamp and its payload.
 use Rattle.std.specs.Prelude.{ℕ, ◌+◌, ◌*◌, ◌^◌}
 use Rattle.rl_words.specs.Fields.{field}
 
