@@ -2,3 +2,4 @@ pub mod Cores
 pub mod Made
 pub mod Starts
 pub mod Looks
+pub mod Reports

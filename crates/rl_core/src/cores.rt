@@ -105,6 +105,13 @@ impl<'a> Core<'a> {
         self.word_at(w)
     }
 
+    /// The minds of all nodes, in order.
+    pub fn minds(&self) -> &[Mind]
+        ensures { result.now ≡ self.now.minds }
+    {
+        self.minds.as_slice()
+    }
+
     /// The mind of the node.
     pub(crate) fn mind_at(&self, n: NodeNo) -> &Mind
         requires { n.0 < length self.now.minds }

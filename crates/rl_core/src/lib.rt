@@ -7,9 +7,11 @@
 pub mod cores;
 mod look;
 pub mod moves;
+pub mod reports;
 mod starts;
 mod turns;
 
 pub use cores::Core;
 pub use moves::move_of;
+pub use reports::report_of;
 pub use rl_runs::Mind;

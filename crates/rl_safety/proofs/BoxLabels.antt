@@ -64,7 +64,8 @@ letter_arm : (x : BoxTable) (l : Letter) → IsLetterTo x l → l.x.0 < 4
 letter_arm x l is = let few : arms_of x.kind ≤ 4 = few_arms x.kind in let there : l.x.0 < arms_of x.kind = is.x in omega arith
 
 -- the arms of a box after one of them is written
-resv_put : KeepsArms → (f : ℕ → ℕ → Option TrainId) (b : BoxId) (w : ResvWord) (x : ℕ) (arm : Option TrainId) → x < 4 → ((y : ℕ) → f b.0 y ≡ holder_of (Some w) y) → put_at f b.0 x arm ≡ resv_with f b (with_arm w x arm)
+resv_put : KeepsArms → (f : ℕ → ℕ → Option TrainId) (b : BoxId) (w : ResvWord) (x : ℕ) (arm : Option TrainId) → x < 4
+    → ((y : ℕ) → f b.0 y ≡ holder_of (Some w) y) → put_at f b.0 x arm ≡ resv_with f b (with_arm w x arm)
 resv_put law f b w x arm small says =
     fun_ext (λ c. fun_ext (λ y. elim (cases_eq c b.0) [
       | inl same ↦
@@ -110,18 +111,22 @@ arm_same tables b x (Some t) = refl
 resv_same : (tables : Tables) (b : BoxId) (w : ResvWord) → resv_move tables b w w ≡ None
 resv_same tables b w = rw (arm_same tables b 0 w.arm0, arm_same tables b 1 w.arm1, arm_same tables b 2 w.arm2, arm_same tables b 3 w.arm3) refl
 
-resv_reserved : (tables : Tables) (b : BoxId) (w : ResvWord) (x : ℕ) (t : TrainId) → x < 4 → arm_in w x ≡ None → resv_move tables b w (with_arm w x (Some t)) ≡ Some (moves.Reserve t (segment_of tables b x) b)
+resv_reserved : (tables : Tables) (b : BoxId) (w : ResvWord) (x : ℕ) (t : TrainId) → x < 4 → arm_in w x ≡ None
+    → resv_move tables b w (with_arm w x (Some t)) ≡ Some (moves.Reserve t (segment_of tables b x) b)
 resv_reserved tables b w zero t small free = rw free refl
 resv_reserved tables b w (suc zero) t small free = rw (arm_same tables b 0 w.arm0, free) refl
 resv_reserved tables b w (suc (suc zero)) t small free = rw (arm_same tables b 0 w.arm0, arm_same tables b 1 w.arm1, free) refl
-resv_reserved tables b w (suc (suc (suc zero))) t small free = rw (arm_same tables b 0 w.arm0, arm_same tables b 1 w.arm1, arm_same tables b 2 w.arm2, free) refl
+resv_reserved tables b w (suc (suc (suc zero))) t small free =
+    rw (arm_same tables b 0 w.arm0, arm_same tables b 1 w.arm1, arm_same tables b 2 w.arm2, free) refl
 resv_reserved tables b w (suc (suc (suc (suc x)))) t small free = absurd (omega arith)
 
-resv_released : (tables : Tables) (b : BoxId) (w : ResvWord) (x : ℕ) (t : TrainId) → x < 4 → arm_in w x ≡ Some t → resv_move tables b w (with_arm w x None) ≡ Some (moves.Release t (segment_of tables b x) b)
+resv_released : (tables : Tables) (b : BoxId) (w : ResvWord) (x : ℕ) (t : TrainId) → x < 4 → arm_in w x ≡ Some t
+    → resv_move tables b w (with_arm w x None) ≡ Some (moves.Release t (segment_of tables b x) b)
 resv_released tables b w zero t small held = rw held refl
 resv_released tables b w (suc zero) t small held = rw (arm_same tables b 0 w.arm0, held) refl
 resv_released tables b w (suc (suc zero)) t small held = rw (arm_same tables b 0 w.arm0, arm_same tables b 1 w.arm1, held) refl
-resv_released tables b w (suc (suc (suc zero))) t small held = rw (arm_same tables b 0 w.arm0, arm_same tables b 1 w.arm1, arm_same tables b 2 w.arm2, held) refl
+resv_released tables b w (suc (suc (suc zero))) t small held =
+    rw (arm_same tables b 0 w.arm0, arm_same tables b 1 w.arm1, arm_same tables b 2 w.arm2, held) refl
 resv_released tables b w (suc (suc (suc (suc x)))) t small held = absurd (omega arith)
 
 -- the arm that the state has
@@ -137,11 +142,19 @@ both a b c d p q e = rw (p, q) e
 refusable : (verb is : Verb) → verb ≡ is → IsRefusable is → IsRefusable verb
 refusable verb is same may = subst IsRefusable (sym same) may
 
-pub box_label : KeepsArms → (tables : Tables) (lay : Layout) (s : State) (x : BoxTable) (m after : BoxMind) (seen left : Word) → IsBoxHere tables lay s x m → Says s seen → BoxStep x m seen left after → IsLabel tables s (nodes.Box x.number) (Box after) seen left
+pub box_label : KeepsArms → (tables : Tables) (lay : Layout) (s : State) (x : BoxTable) (m after : BoxMind) (seen left : Word)
+    → IsBoxHere tables lay s x m → Says s seen → BoxStep x m seen left after → IsLabel tables s (nodes.Box x.number) (Box after) seen left
 box_label law tables lay s x m after seen left here says (take t l waiting to arms) =
     record {
       step = take_label x.number.0 t.0 l;
-      fits = (ap (λ (n : BoxMind). n.work) here.mind, says, ap (λ (n : BoxId). n.0) to, rw to (both ((line_of tables).has_arm x.number.0 l.x.0) ((line_of tables).has_arm x.number.0 l.y.0) (nat_lt l.x.0 (arms_of x.kind)) (nat_lt l.y.0 (arms_of x.kind)) (here.arms l.x.0) (here.arms l.y.0) arms));
+      fits = (
+        ap (λ (n : BoxMind). n.work) here.mind,
+        says,
+        ap (λ (n : BoxId). n.0) to,
+        rw to
+            (both ((line_of tables).has_arm x.number.0 l.x.0) ((line_of tables).has_arm x.number.0 l.y.0) (nat_lt l.x.0 (arms_of x.kind))
+            (nat_lt l.y.0 (arms_of x.kind)) (here.arms l.x.0) (here.arms l.y.0) arms),
+      );
       leaves = rw here.mind refl;
       moves = refl;
       by = refl;
@@ -236,6 +249,7 @@ box_label law tables lay s x m after seen left here says (busy t l p verb differ
       by = refl;
     }
 
-pub machine_label : (tables : Tables) (s : State) (b : BoxId) (m after : MachineMind) (seen left : Word) → Says s seen → MachineStep b m seen left after → IsLabel tables s (nodes.Machine b) (Machine after) seen left
+pub machine_label : (tables : Tables) (s : State) (b : BoxId) (m after : MachineMind) (seen left : Word) → Says s seen
+    → MachineStep b m seen left after → IsLabel tables s (nodes.Machine b) (Machine after) seen left
 machine_label tables s b m after seen left says (throw mind p) = record { step = throw_label b.0 p; fits = says; leaves = refl; moves = refl; by = refl }
 machine_label tables s b m after seen left says (settle mind p) = record { step = settle_label b.0 p; fits = says; leaves = refl; moves = refl; by = refl }

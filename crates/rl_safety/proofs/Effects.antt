@@ -33,7 +33,8 @@ record HasMinds (tables : Tables) (tries : ℕ) (c : CoreState) (e : Event) (s :
   pub tracks : track_of tables (after tables c e) ≡ s.tracks
   pub boxes : box_of tables (after tables c e) ≡ s.boxes
 
-minds_after : (tables : Tables) (tries : ℕ) (c : CoreState) (e : Event) (node : NodeKind) (mind : Mind) → IsBy tables c e node mind → IsMindOf tables node mind → HasMinds tables tries c e (with_mind (read tables tries c) node mind)
+minds_after : (tables : Tables) (tries : ℕ) (c : CoreState) (e : Event) (node : NodeKind) (mind : Mind) → IsBy tables c e node mind
+    → IsMindOf tables node mind → HasMinds tables tries c e (with_mind (read tables tries c) node mind)
 minds_after tables tries c e (nodes.Train t) (Train m) by is =
     record {
       trains = trains_new tables tries c e t m by;
@@ -86,7 +87,8 @@ record IsRead (tables : Tables) (c : CoreState) (s : State) : Type 0 where
   pub run : run_in tables c ≡ s.run
   pub sense : sense_in tables c ≡ s.sense
 
-words_after : (tables : Tables) (c : CoreState) (e : Event) (new : ℕ) (left : Word) (s : State) → IsRead tables c s → IsOn tables c e (kind_of left) new → read_word (kind_of left) new ≡ Some left → HasWords tables c e (with_word s left)
+words_after : (tables : Tables) (c : CoreState) (e : Event) (new : ℕ) (left : Word) (s : State) → IsRead tables c s
+    → IsOn tables c e (kind_of left) new → read_word (kind_of left) new ≡ Some left → HasWords tables c e (with_word s left)
 words_after tables c e new (Resv b w) s was on reads =
     let got = from_map (Resv b) (read_resv new) (Resv b w) reads in
     let same : got.0 ≡ w = cc (got.2) in
@@ -144,7 +146,8 @@ words_after tables c e new (Sense t v) s was on reads =
     }
 
 -- a new mind leaves the words, and a new word the minds
-mind_leaves : (tables : Tables) (tries : ℕ) (c : CoreState) (node : NodeKind) (mind : Mind) → IsMindOf tables node mind → IsRead tables c (with_mind (read tables tries c) node mind)
+mind_leaves : (tables : Tables) (tries : ℕ) (c : CoreState) (node : NodeKind) (mind : Mind) → IsMindOf tables node mind
+    → IsRead tables c (with_mind (read tables tries c) node mind)
 mind_leaves tables tries c (nodes.Train t) (Train m) is = record { resv = refl; lock = refl; mail = refl; run = refl; sense = refl }
 mind_leaves tables tries c (nodes.Train t) (Track m) is = absurd is
 mind_leaves tables tries c (nodes.Train t) (Box m) is = absurd is
@@ -184,21 +187,34 @@ word_leaves_boxes s (Run t v) = refl
 word_leaves_boxes s (Sense t v) = refl
 
 -- states are equal whose parts are
-pub same_state : (a b : State) → a.trains ≡ b.trains → a.tracks ≡ b.tracks → a.boxes ≡ b.boxes → a.resv ≡ b.resv → a.lock ≡ b.lock → a.mail ≡ b.mail → a.run ≡ b.run → a.sense ≡ b.sense → a ≡ b
+pub same_state : (a b : State) → a.trains ≡ b.trains → a.tracks ≡ b.tracks → a.boxes ≡ b.boxes → a.resv ≡ b.resv → a.lock ≡ b.lock → a.mail ≡ b.mail
+    → a.run ≡ b.run → a.sense ≡ b.sense → a ≡ b
 same_state a b e1 e2 e3 e4 e5 e6 e7 e8 =
-    let build = λ (t : ℕ → TrainMind) (k : ℕ → TrackMind) (x : ℕ → BoxMind) (r : ℕ → ℕ → Option TrainId) (l : ℕ → LockWord) (m : ℕ → MailWord) (u : ℕ → RunWord) (v : ℕ → SenseWord).
+    let build =
+    λ (t : ℕ → TrainMind) (k : ℕ → TrackMind) (x : ℕ → BoxMind) (r : ℕ → ℕ → Option TrainId) (l : ℕ → LockWord) (m : ℕ → MailWord) (u : ℕ → RunWord)
+    (v : ℕ → SenseWord).
     let made : State = record { trains = t; tracks = k; boxes = x; resv = r; lock = l; mail = m; run = u; sense = v } in made in
-    let p1 : a ≡ build b.trains a.tracks a.boxes a.resv a.lock a.mail a.run a.sense = ap (λ t. build t a.tracks a.boxes a.resv a.lock a.mail a.run a.sense) e1 in
-    let p2 : build b.trains a.tracks a.boxes a.resv a.lock a.mail a.run a.sense ≡ build b.trains b.tracks a.boxes a.resv a.lock a.mail a.run a.sense = ap (λ k. build b.trains k a.boxes a.resv a.lock a.mail a.run a.sense) e2 in
-    let p3 : build b.trains b.tracks a.boxes a.resv a.lock a.mail a.run a.sense ≡ build b.trains b.tracks b.boxes a.resv a.lock a.mail a.run a.sense = ap (λ x. build b.trains b.tracks x a.resv a.lock a.mail a.run a.sense) e3 in
-    let p4 : build b.trains b.tracks b.boxes a.resv a.lock a.mail a.run a.sense ≡ build b.trains b.tracks b.boxes b.resv a.lock a.mail a.run a.sense = ap (λ r. build b.trains b.tracks b.boxes r a.lock a.mail a.run a.sense) e4 in
-    let p5 : build b.trains b.tracks b.boxes b.resv a.lock a.mail a.run a.sense ≡ build b.trains b.tracks b.boxes b.resv b.lock a.mail a.run a.sense = ap (λ l. build b.trains b.tracks b.boxes b.resv l a.mail a.run a.sense) e5 in
-    let p6 : build b.trains b.tracks b.boxes b.resv b.lock a.mail a.run a.sense ≡ build b.trains b.tracks b.boxes b.resv b.lock b.mail a.run a.sense = ap (λ m. build b.trains b.tracks b.boxes b.resv b.lock m a.run a.sense) e6 in
-    let p7 : build b.trains b.tracks b.boxes b.resv b.lock b.mail a.run a.sense ≡ build b.trains b.tracks b.boxes b.resv b.lock b.mail b.run a.sense = ap (λ u. build b.trains b.tracks b.boxes b.resv b.lock b.mail u a.sense) e7 in
-    let p8 : build b.trains b.tracks b.boxes b.resv b.lock b.mail b.run a.sense ≡ b = ap (λ v. build b.trains b.tracks b.boxes b.resv b.lock b.mail b.run v) e8 in
+    let p1 : a ≡ build b.trains a.tracks a.boxes a.resv a.lock a.mail a.run a.sense =
+    ap (λ t. build t a.tracks a.boxes a.resv a.lock a.mail a.run a.sense) e1 in
+    let p2 : build b.trains a.tracks a.boxes a.resv a.lock a.mail a.run a.sense ≡ build b.trains b.tracks a.boxes a.resv a.lock a.mail a.run a.sense =
+    ap (λ k. build b.trains k a.boxes a.resv a.lock a.mail a.run a.sense) e2 in
+    let p3 : build b.trains b.tracks a.boxes a.resv a.lock a.mail a.run a.sense ≡ build b.trains b.tracks b.boxes a.resv a.lock a.mail a.run a.sense =
+    ap (λ x. build b.trains b.tracks x a.resv a.lock a.mail a.run a.sense) e3 in
+    let p4 : build b.trains b.tracks b.boxes a.resv a.lock a.mail a.run a.sense ≡ build b.trains b.tracks b.boxes b.resv a.lock a.mail a.run a.sense =
+    ap (λ r. build b.trains b.tracks b.boxes r a.lock a.mail a.run a.sense) e4 in
+    let p5 : build b.trains b.tracks b.boxes b.resv a.lock a.mail a.run a.sense ≡ build b.trains b.tracks b.boxes b.resv b.lock a.mail a.run a.sense =
+    ap (λ l. build b.trains b.tracks b.boxes b.resv l a.mail a.run a.sense) e5 in
+    let p6 : build b.trains b.tracks b.boxes b.resv b.lock a.mail a.run a.sense ≡ build b.trains b.tracks b.boxes b.resv b.lock b.mail a.run a.sense =
+    ap (λ m. build b.trains b.tracks b.boxes b.resv b.lock m a.run a.sense) e6 in
+    let p7 : build b.trains b.tracks b.boxes b.resv b.lock b.mail a.run a.sense ≡ build b.trains b.tracks b.boxes b.resv b.lock b.mail b.run a.sense =
+    ap (λ u. build b.trains b.tracks b.boxes b.resv b.lock b.mail u a.sense) e7 in
+    let p8 : build b.trains b.tracks b.boxes b.resv b.lock b.mail b.run a.sense ≡ b =
+    ap (λ v. build b.trains b.tracks b.boxes b.resv b.lock b.mail b.run v) e8 in
     p1 ∙ (p2 ∙ (p3 ∙ (p4 ∙ (p5 ∙ (p6 ∙ (p7 ∙ p8))))))
 
-pub state_after : (tables : Tables) (tries : ℕ) (c : CoreState) (e : Event) (node : NodeKind) (mind : Mind) (new : ℕ) (left : Word) → IsBy tables c e node mind → IsMindOf tables node mind → IsOn tables c e (kind_of left) new → read_word (kind_of left) new ≡ Some left → read tables tries (after tables c e) ≡ with_word (with_mind (read tables tries c) node mind) left
+pub state_after : (tables : Tables) (tries : ℕ) (c : CoreState) (e : Event) (node : NodeKind) (mind : Mind) (new : ℕ) (left : Word)
+    → IsBy tables c e node mind → IsMindOf tables node mind → IsOn tables c e (kind_of left) new → read_word (kind_of left) new ≡ Some left
+    → read tables tries (after tables c e) ≡ with_word (with_mind (read tables tries c) node mind) left
 state_after tables tries c e node mind new left by is on reads =
     let s : State = with_mind (read tables tries c) node mind in
     let minds = minds_after tables tries c e node mind by is in

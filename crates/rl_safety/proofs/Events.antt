@@ -29,6 +29,7 @@ use Rattle.rl_tables.specs.Kept.{IsLine}
 use Rattle.rl_tables.specs.Starts.{layout_of}
 use Rattle.rl_tables.specs.Tables.{segment_in}
 use Rattle.rl_train.specs.declared.mind.TrainMind.{TrainMind}
+use Rattle.rl_train.specs.Kept.{IsTrainOn}
 use Rattle.rl_train.specs.Mind.{IsTrainMind}
 use Rattle.rl_train.specs.Steps.{train_step}
 use Rattle.rl_box.specs.declared.mind.BoxMind.{BoxMind}
@@ -73,7 +74,8 @@ read_back : ReadsWords → (kind : WordKind) (n : ℕ) (word : Word) → IsReadi
 read_back laws kind n word is = subst (λ (k : ℕ). read_word (kind_of word) k ≡ Some word) is.packed (laws.reads word is.fits)
 
 -- the state says of a word what is read of it
-says_read : (tables : Tables) (tries : ℕ) (c : CoreState) (kind : WordKind) (payload : ℕ) (seen : Word) → payload_of tables c kind ≡ payload → read_word kind payload ≡ Some seen → Says (read tables tries c) seen
+pub says_read : (tables : Tables) (tries : ℕ) (c : CoreState) (kind : WordKind) (payload : ℕ) (seen : Word) → payload_of tables c kind ≡ payload
+    → read_word kind payload ≡ Some seen → Says (read tables tries c) seen
 says_read tables tries c kinds.Still payload seen is reads = absurd (cc)
 says_read tables tries c (kinds.Resv b) payload seen is reads =
     let got = from_map (Resv b) (read_resv payload) seen reads in
@@ -97,17 +99,20 @@ says_read tables tries c (kinds.Sense t) payload seen is reads =
     subst S got.2 (ap (λ o. unwrap_or o (Quiet 0)) (ap read_sense is ∙ got.1))
 
 -- the minds that the state has
-train_here : (tables : Tables) (tries : ℕ) (c : CoreState) (t : TrainId) (m : TrainMind) → t.0 < length tables.trains → c.minds t.0 ≡ Train m → (read tables tries c).trains t.0 ≡ m
+train_here : (tables : Tables) (tries : ℕ) (c : CoreState) (t : TrainId) (m : TrainMind) → t.0 < length tables.trains → c.minds t.0 ≡ Train m
+    → (read tables tries c).trains t.0 ≡ m
 train_here tables tries c t m there is =
     let test : nat_lt t.0 (length tables.trains) ≡ true = grind (arith, nat_tests) in
     rw (test, is) refl
 
-track_here : (tables : Tables) (tries : ℕ) (c : CoreState) (t : TrainId) (m : TrackMind) → t.0 < length tables.trains → c.minds (length tables.trains + t.0) ≡ Track m → (read tables tries c).tracks t.0 ≡ m
+track_here : (tables : Tables) (tries : ℕ) (c : CoreState) (t : TrainId) (m : TrackMind) → t.0 < length tables.trains
+    → c.minds (length tables.trains + t.0) ≡ Track m → (read tables tries c).tracks t.0 ≡ m
 track_here tables tries c t m there is =
     let test : nat_lt t.0 (length tables.trains) ≡ true = grind (arith, nat_tests) in
     rw (test, is) refl
 
-box_here : (tables : Tables) (tries : ℕ) (c : CoreState) (b : BoxId) (m : BoxMind) → b.0 < length tables.boxes → c.minds (2 * length tables.trains + b.0) ≡ Box m → (read tables tries c).boxes b.0 ≡ m
+pub box_here : (tables : Tables) (tries : ℕ) (c : CoreState) (b : BoxId) (m : BoxMind) → b.0 < length tables.boxes
+    → c.minds (2 * length tables.trains + b.0) ≡ Box m → (read tables tries c).boxes b.0 ≡ m
 box_here tables tries c b m there is =
     let test : nat_lt b.0 (length tables.boxes) ≡ true = grind (arith, nat_tests) in
     rw (test, is) refl
@@ -116,7 +121,8 @@ box_here tables tries c b m there is =
 steps_there : (tables : Tables) (t : ℕ) (x : TrainTable) → slice_get tables.trains t ≡ Some x → (line_of tables).steps t ≡ length x.rows
 steps_there tables t x there = rw there refl
 
-row_there : (tables : Tables) (t k : ℕ) (x : TrainTable) (row : StepRow) → slice_get tables.trains t ≡ Some x → slice_get x.rows k ≡ Some row → (line_of tables).row t k ≡ row
+row_there : (tables : Tables) (t k : ℕ) (x : TrainTable) (row : StepRow) → slice_get tables.trains t ≡ Some x → slice_get x.rows k ≡ Some row
+    → (line_of tables).row t k ≡ row
 row_there tables t k x row there is = rw (there, is) refl
 
 kind_there : (tables : Tables) (b : ℕ) (x : BoxTable) → slice_get tables.boxes b ≡ Some x → (line_of tables).kind b ≡ x.kind
@@ -126,10 +132,11 @@ is_some_map : {A B : Type 0} (f : A → B) (o : Option A) → is_some (option_ma
 is_some_map f None = refl
 is_some_map f (Some a) = refl
 
-arms_there : (tables : Tables) (b : ℕ) (x : BoxTable) (i : ℕ) → IsLine tables → slice_get tables.boxes b ≡ Some x → (line_of tables).has_arm b i ≡ nat_lt i (arms_of x.kind)
+arms_there : (tables : Tables) (b : ℕ) (x : BoxTable) (i : ℕ) → IsLine tables → slice_get tables.boxes b ≡ Some x
+    → (line_of tables).has_arm b i ≡ nat_lt i (arms_of x.kind)
 arms_there tables b x i line there = rw there (is_some_map (λ (s : SegId). s.0) (segment_in x i) ∙ (line.boxes b x there).arms i)
 
--- an event as a step of the protocol
+-- an event as a step of the protocol, and what its word says after it
 pub record IsEventStep (tables : Tables) (tries : ℕ) (c : CoreState) (e : Event) : Type 0 where
   pub step : Step
   pub fits : Fits (line_of tables) (read tables tries c) step
@@ -138,6 +145,10 @@ pub record IsEventStep (tables : Tables) (tries : ℕ) (c : CoreState) (e : Even
   pub node : NodeKind
   pub at : node_at (layout_of tables) e.node.0 ≡ Some node
   pub by : node_of step ≡ node
+  pub left : Word
+  pub new : ℕ
+  pub on : IsOn tables c e (kind_of left) new
+  pub reads : read_word (kind_of left) new ≡ Some left
 
 -- what there is to know of the step of a node
 pub record IsStepAt (tables : Tables) (s : State) (node : NodeKind) (kind : WordKind) (payload : ℕ) (made : ℕ × Mind) : Type 0 where
@@ -150,14 +161,17 @@ pub record IsStepAt (tables : Tables) (s : State) (node : NodeKind) (kind : Word
   pub mind : IsMindOf tables node made.1
   pub label : IsLabel tables s node made.1 seen left
 
-pub from_step : (tables : Tables) (tries : ℕ) (c : CoreState) (e : Event) (node : NodeKind) (kind : WordKind) (made : IsMade tables c e) → node_at (layout_of tables) e.node.0 ≡ Some node → word_at (layout_of tables) e.word.0 ≡ Some kind → IsStepAt tables (read tables tries c) node kind (payload_in e.was) made.made → IsEventStep tables tries c e
+pub from_step : (tables : Tables) (tries : ℕ) (c : CoreState) (e : Event) (node : NodeKind) (kind : WordKind) (made : IsMade tables c e)
+    → node_at (layout_of tables) e.node.0 ≡ Some node → word_at (layout_of tables) e.word.0 ≡ Some kind
+    → IsStepAt tables (read tables tries c) node kind (payload_in e.was) made.made → IsEventStep tables tries c e
 from_step tables tries c e node kind made at word there =
     let by : IsBy tables c e node made.made.1 = record { at = at; mind_is = made.mind } in
     let word_left : word_at (layout_of tables) e.word.0 ≡ Some (kind_of there.left) = word ∙ ap Some (sym there.kind_left) in
     let on : IsOn tables c e (kind_of there.left) made.made.0 = record { at = word_left; was = made.was; now = made.now; small = there.small } in
     let after_is = state_after tables tries c e node made.made.1 made.made.0 there.left by there.mind on there.reads in
     let now : payload_in e.now ≡ made.made.0 = ap payload_in made.now ∙ payload_of_stamped e.stamp made.made.0 there.small in
-    let reads_now : read_word kind (payload_in e.now) ≡ Some there.left = ap (read_word kind) now ∙ (ap (λ k. read_word k made.made.0) (sym there.kind_left) ∙ there.reads) in
+    let reads_now : read_word kind (payload_in e.now) ≡ Some there.left =
+    ap (read_word kind) now ∙ (ap (λ k. read_word k made.made.0) (sym there.kind_left) ∙ there.reads) in
     record {
       step = there.label.step;
       fits = there.label.fits;
@@ -166,10 +180,17 @@ from_step tables tries c e node kind made at word there =
       node = node;
       at = at;
       by = there.label.by;
+      left = there.left;
+      new = made.made.0;
+      on = on;
+      reads = there.reads;
     }
 
 -- the steps of the four kinds of node
-pub train_event : StepsKeep → ReadsWords → (tables : Tables) (tries : ℕ) (c : CoreState) (t : TrainId) (m : TrainMind) (kind : WordKind) (payload : ℕ) (made : ℕ × Mind) → IsLine tables → t.0 < length tables.trains → c.minds t.0 ≡ Train m → IsMindOf tables (nodes.Train t) (Train m) → payload_of tables c kind ≡ payload → step_of tables (nodes.Train t) (Train m) kind payload ≡ Some made → IsStepAt tables (read tables tries c) (nodes.Train t) kind payload made
+pub train_event : StepsKeep → ReadsWords → (tables : Tables) (tries : ℕ) (c : CoreState) (t : TrainId) (m : TrainMind) (kind : WordKind) (payload : ℕ)
+    (made : ℕ × Mind) → IsLine tables → t.0 < length tables.trains → c.minds t.0 ≡ Train m → IsMindOf tables (nodes.Train t) (Train m)
+    → payload_of tables c kind ≡ payload → step_of tables (nodes.Train t) (Train m) kind payload ≡ Some made
+    → IsStepAt tables (read tables tries c) (nodes.Train t) kind payload made
 train_event laws words tables tries c t m kind payload made line there mind sound is step =
     let found = from_then (λ (x : TrainTable). as_mind Train (train_step x m kind payload)) (slice_get tables.trains t.0) made step in
     let x : TrainTable = found.0 in
@@ -177,7 +198,14 @@ train_event laws words tables tries c t m kind payload made line there mind soun
     let number : x.number.0 ≡ t.0 = (line.trains t.0 x found.1).number in
     let named : x.number ≡ t = ap (λ (n : ℕ). let made : TrainId = record { 0 = n } in made) number in
     let within : x.number.0 < length tables.trains = omega arith in
-    let kept = laws.trains (layout_of tables) x m kind payload stepped.0.0 stepped.0.1 (record { boxes = line.few_boxes; trains = line.few_trains; there = within; table_is = laws.tables tables t.0 x line found.1; mind_is = sound x found.1 }) stepped.1 in
+    let on : IsTrainOn (layout_of tables) x m = record {
+      boxes = line.few_boxes;
+      trains = line.few_trains;
+      there = within;
+      table_is = laws.tables tables t.0 x line found.1;
+      mind_is = sound x found.1;
+    } in
+    let kept = laws.trains (layout_of tables) x m kind payload stepped.0.0 stepped.0.1 on stepped.1 in
     let says = says_read tables tries c kind payload kept.seen is kept.saw in
     let there_at : slice_get tables.trains x.number.0 ≡ Some x = ap (λ n. slice_get tables.trains n) number ∙ found.1 in
     let here : IsTrainHere tables (read tables tries c) x m = record {
@@ -186,7 +214,8 @@ train_event laws words tables tries c t m kind payload made line there mind soun
       row = λ row row_is. row_there tables x.number.0 m.step x row there_at row_is;
     } in
     let label = train_label tables (read tables tries c) x m stepped.0.1 kept.seen kept.left here says kept.step in
-    let mine : IsMindOf tables (nodes.Train t) (Train stepped.0.1) = λ y y_is. subst (λ (z : TrainTable). IsTrainMind z stepped.0.1) (same_some (slice_get tables.trains t.0) x y found.1 y_is) kept.after_is in
+    let mine : IsMindOf tables (nodes.Train t) (Train stepped.0.1) =
+    λ y y_is. subst (λ (z : TrainTable). IsTrainMind z stepped.0.1) (same_some (slice_get tables.trains t.0) x y found.1 y_is) kept.after_is in
     let P : ℕ × Mind → Type 0 = λ r. IsStepAt tables (read tables tries c) (nodes.Train t) kind payload r in
     let L : TrainId → Type 0 = λ u. IsLabel tables (read tables tries c) (nodes.Train u) (Train stepped.0.1) kept.seen kept.left in
     subst P stepped.2 record {
@@ -200,7 +229,12 @@ train_event laws words tables tries c t m kind payload made line there mind soun
       label = subst L named label;
     }
 
-pub track_event : StepsKeep → ReadsWords → (tables : Tables) (tries : ℕ) (c : CoreState) (t : TrainId) (m : TrackMind) (kind : WordKind) (payload : ℕ) (made : ℕ × Mind) → t.0 < length tables.trains → c.minds (length tables.trains + t.0) ≡ Track m → IsMindOf tables (nodes.Track t) (Track m) → ((k : ℕ) → m ≡ track_at k Watch → (read tables tries c).run t.0 ≡ Go k → row_at tables t.0 k ≡ Some ((line_of tables).row t.0 k)) → ((k : ℕ) → m ≡ track_at k LeaveDue → (read tables tries c).run t.0 ≡ Across k → row_at tables t.0 k ≡ Some ((line_of tables).row t.0 k)) → payload_of tables c kind ≡ payload → step_of tables (nodes.Track t) (Track m) kind payload ≡ Some made → IsStepAt tables (read tables tries c) (nodes.Track t) kind payload made
+pub track_event : StepsKeep → ReadsWords → (tables : Tables) (tries : ℕ) (c : CoreState) (t : TrainId) (m : TrackMind) (kind : WordKind) (payload : ℕ)
+    (made : ℕ × Mind) → t.0 < length tables.trains → c.minds (length tables.trains + t.0) ≡ Track m → IsMindOf tables (nodes.Track t) (Track m)
+    → ((k : ℕ) → m ≡ track_at k Watch → (read tables tries c).run t.0 ≡ Go k → row_at tables t.0 k ≡ Some ((line_of tables).row t.0 k))
+    → ((k : ℕ) → m ≡ track_at k LeaveDue → (read tables tries c).run t.0 ≡ Across k → row_at tables t.0 k ≡ Some ((line_of tables).row t.0 k))
+    → payload_of tables c kind ≡ payload → step_of tables (nodes.Track t) (Track m) kind payload ≡ Some made
+    → IsStepAt tables (read tables tries c) (nodes.Track t) kind payload made
 track_event laws words tables tries c t m kind payload made there mind sound enters leaves is step =
     let stepped = from_map (λ (r : ℕ × TrackMind). let pair : ℕ × Mind = (r.0, Track r.1) in pair) (track_step t m kind payload) made step in
     let kept = laws.tracks (layout_of tables) t m kind payload stepped.0.0 stepped.0.1 there sound stepped.1 in
@@ -214,10 +248,14 @@ track_event laws words tables tries c t m kind payload made there mind sound ent
       reads = read_back words kind stepped.0.0 kept.left kept.reads;
       small = kept.small;
       mind = kept.after_is;
-      label = track_label tables (read tables tries c) t m stepped.0.1 kept.seen kept.left (track_here tables tries c t m there mind) says enters leaves kept.step;
+      label = track_label tables (read tables tries c) t m stepped.0.1 kept.seen kept.left
+          (track_here tables tries c t m there mind) says enters leaves kept.step;
     }
 
-pub box_event : StepsKeep → ReadsWords → KeepsArms → (tables : Tables) (tries : ℕ) (c : CoreState) (b : BoxId) (m : BoxMind) (kind : WordKind) (payload : ℕ) (made : ℕ × Mind) → IsLine tables → HasWord (layout_of tables) kind → b.0 < length tables.boxes → c.minds (2 * length tables.trains + b.0) ≡ Box m → IsMindOf tables (nodes.Box b) (Box m) → payload_of tables c kind ≡ payload → step_of tables (nodes.Box b) (Box m) kind payload ≡ Some made → IsStepAt tables (read tables tries c) (nodes.Box b) kind payload made
+pub box_event : StepsKeep → ReadsWords → KeepsArms → (tables : Tables) (tries : ℕ) (c : CoreState) (b : BoxId) (m : BoxMind) (kind : WordKind)
+    (payload : ℕ) (made : ℕ × Mind) → IsLine tables → HasWord (layout_of tables) kind → b.0 < length tables.boxes
+    → c.minds (2 * length tables.trains + b.0) ≡ Box m → IsMindOf tables (nodes.Box b) (Box m) → payload_of tables c kind ≡ payload
+    → step_of tables (nodes.Box b) (Box m) kind payload ≡ Some made → IsStepAt tables (read tables tries c) (nodes.Box b) kind payload made
 box_event laws words arms tables tries c b m kind payload made line has there mind sound is step =
     let found = from_then (λ (x : BoxTable). as_mind Box (box_step x m kind payload)) (slice_get tables.boxes b.0) made step in
     let x : BoxTable = found.0 in
@@ -225,7 +263,9 @@ box_event laws words arms tables tries c b m kind payload made line has there mi
     let number : x.number.0 ≡ b.0 = (line.boxes b.0 x found.1).number in
     let named : x.number ≡ b = ap (λ (n : ℕ). let made : BoxId = record { 0 = n } in made) number in
     let within : x.number.0 < length tables.boxes = omega arith in
-    let kept = laws.boxes (layout_of tables) x m kind payload stepped.0.0 stepped.0.1 (record { boxes = line.few_boxes; trains = line.few_trains; there = within; mind_is = sound x found.1; word = has }) stepped.1 in
+    let kept =
+    laws.boxes (layout_of tables) x m kind payload stepped.0.0 stepped.0.1
+    (record { boxes = line.few_boxes; trains = line.few_trains; there = within; mind_is = sound x found.1; word = has }) stepped.1 in
     let says = says_read tables tries c kind payload kept.seen is kept.saw in
     let there_at : slice_get tables.boxes x.number.0 ≡ Some x = ap (λ n. slice_get tables.boxes n) number ∙ found.1 in
     let here : IsBoxHere tables (layout_of tables) (read tables tries c) x m = record {
@@ -235,7 +275,8 @@ box_event laws words arms tables tries c b m kind payload made line has there mi
       work = (sound x found.1).work;
     } in
     let label = box_label arms tables (layout_of tables) (read tables tries c) x m stepped.0.1 kept.seen kept.left here says kept.step in
-    let mine : IsMindOf tables (nodes.Box b) (Box stepped.0.1) = λ y y_is. subst (λ (z : BoxTable). IsBoxMind (layout_of tables) z stepped.0.1) (same_some (slice_get tables.boxes b.0) x y found.1 y_is) kept.after_is in
+    let mine : IsMindOf tables (nodes.Box b) (Box stepped.0.1) =
+    λ y y_is. subst (λ (z : BoxTable). IsBoxMind (layout_of tables) z stepped.0.1) (same_some (slice_get tables.boxes b.0) x y found.1 y_is) kept.after_is in
     let P : ℕ × Mind → Type 0 = λ r. IsStepAt tables (read tables tries c) (nodes.Box b) kind payload r in
     let L : BoxId → Type 0 = λ u. IsLabel tables (read tables tries c) (nodes.Box u) (Box stepped.0.1) kept.seen kept.left in
     subst P stepped.2 record {
@@ -249,7 +290,10 @@ box_event laws words arms tables tries c b m kind payload made line has there mi
       label = subst L named label;
     }
 
-pub machine_event : StepsKeep → ReadsWords → (tables : Tables) (tries : ℕ) (c : CoreState) (b : BoxId) (m : MachineMind) (kind : WordKind) (payload : ℕ) (made : ℕ × Mind) → b.0 < length tables.boxes → payload_of tables c kind ≡ payload → step_of tables (nodes.Machine b) (Machine m) kind payload ≡ Some made → IsStepAt tables (read tables tries c) (nodes.Machine b) kind payload made
+pub machine_event : StepsKeep → ReadsWords → (tables : Tables) (tries : ℕ) (c : CoreState) (b : BoxId) (m : MachineMind) (kind : WordKind)
+    (payload : ℕ) (made : ℕ × Mind) → b.0 < length tables.boxes → payload_of tables c kind ≡ payload
+    → step_of tables (nodes.Machine b) (Machine m) kind payload ≡ Some made
+    → IsStepAt tables (read tables tries c) (nodes.Machine b) kind payload made
 machine_event laws words tables tries c b m kind payload made there is step =
     let stepped = from_map (λ (r : ℕ × MachineMind). let pair : ℕ × Mind = (r.0, Machine r.1) in pair) (machine_step b m kind payload) made step in
     let kept = laws.machines (layout_of tables) b m kind payload stepped.0.0 stepped.0.1 there stepped.1 in

@@ -7,3 +7,8 @@ pub mod BoxLabels
 pub mod Events
 pub mod Started
 pub mod Runs
+pub mod Attempts
+pub mod Outcomes
+pub mod Readable
+pub mod AtWork
+pub mod Rests

@@ -40,12 +40,15 @@ pub record IsBy (tables : Tables) (c : CoreState) (e : Event) (node : NodeKind) 
   pub at : node_at (layout_of tables) e.node.0 ≡ Some node
   pub mind_is : mind_after tables c e ≡ mind
 
-mind_new : (tables : Tables) (c : CoreState) (e : Event) (node : NodeKind) (mind : Mind) → IsBy tables c e node mind → (after tables c e).minds (node_number (layout_of tables) node) ≡ mind
+mind_new : (tables : Tables) (c : CoreState) (e : Event) (node : NodeKind) (mind : Mind) → IsBy tables c e node mind
+    → (after tables c e).minds (node_number (layout_of tables) node) ≡ mind
 mind_new tables c e node mind by =
     let is = node_at-some (layout_of tables) e.node.0 node by.at in
     rw (is.1, put_same c.minds e.node.0 (mind_after tables c e)) by.mind_is
 
-mind_kept : (tables : Tables) (c : CoreState) (e : Event) (node other : NodeKind) (mind : Mind) → IsBy tables c e node mind → HasNode (layout_of tables) other → (other ≡ node → ⊥) → (after tables c e).minds (node_number (layout_of tables) other) ≡ c.minds (node_number (layout_of tables) other)
+mind_kept : (tables : Tables) (c : CoreState) (e : Event) (node other : NodeKind) (mind : Mind) → IsBy tables c e node mind
+    → HasNode (layout_of tables) other → (other ≡ node → ⊥)
+    → (after tables c e).minds (node_number (layout_of tables) other) ≡ c.minds (node_number (layout_of tables) other)
 mind_kept tables c e node other mind by there differ =
     let apart : node_number (layout_of tables) other ≡ e.node.0 → ⊥ = λ same.
     let mine : node_at (layout_of tables) (node_number (layout_of tables) other) ≡ Some other = node_at-number (layout_of tables) other there in
@@ -57,14 +60,16 @@ mind_kept tables c e node other mind by there differ =
 within_or_not : (n k : ℕ) → ((nat_lt n k ≡ true) × (n < k)) ⊎ ((nat_lt n k ≡ false) × (k ≤ n))
 within_or_not n k = elim (cases_lt n k) [ inl h ↦ inl (grind (arith, nat_tests), h) | inr h ↦ inr (grind (arith, nat_tests), h) ]
 
-pub trains_kept : (tables : Tables) (tries : ℕ) (c : CoreState) (e : Event) (node : NodeKind) (mind : Mind) → IsBy tables c e node mind → ((t : TrainId) → nodes.Train t ≡ node → ⊥) → train_of tables tries (after tables c e) ≡ train_of tables tries c
+pub trains_kept : (tables : Tables) (tries : ℕ) (c : CoreState) (e : Event) (node : NodeKind) (mind : Mind) → IsBy tables c e node mind
+    → ((t : TrainId) → nodes.Train t ≡ node → ⊥) → train_of tables tries (after tables c e) ≡ train_of tables tries c
 trains_kept tables tries c e node mind by differ =
     fun_ext (λ u. elim (within_or_not u (layout_of tables).trains) [
       | inl there ↦ rw (there.0, mind_kept tables c e node (nodes.Train (train u)) mind by there.1 (differ (train u))) refl
       | inr past ↦ rw past.0 refl
     ])
 
-pub trains_new : (tables : Tables) (tries : ℕ) (c : CoreState) (e : Event) (t : TrainId) (m : TrainMind) → IsBy tables c e (nodes.Train t) (Train m) → train_of tables tries (after tables c e) ≡ put (train_of tables tries c) t.0 m
+pub trains_new : (tables : Tables) (tries : ℕ) (c : CoreState) (e : Event) (t : TrainId) (m : TrainMind) → IsBy tables c e (nodes.Train t) (Train m)
+    → train_of tables tries (after tables c e) ≡ put (train_of tables tries c) t.0 m
 trains_new tables tries c e t m by =
     fun_ext (λ u. elim (cases_eq u t.0) [
       | inl same ↦
@@ -76,7 +81,12 @@ trains_new tables tries c e t m by =
           elim (within_or_not u (layout_of tables).trains) [
             | inl there ↦
                 let apart : nodes.Train (train u) ≡ nodes.Train t → ⊥ = λ same. other (train_number-same u t same) in
-                rw (set_other (train_of tables tries c) t.0 m u other, there.0, mind_kept tables c e (nodes.Train t) (nodes.Train (train u)) (Train m) by there.1 apart) refl
+                rw (
+                  set_other (train_of tables tries c) t.0 m u other,
+                  there.0,
+                  mind_kept tables c e (nodes.Train t) (nodes.Train (train u))
+                      (Train m) by there.1 apart,
+                ) refl
             | inr past ↦ rw (set_other (train_of tables tries c) t.0 m u other, past.0) refl
           ]
     ])
@@ -84,14 +94,16 @@ trains_new tables tries c e t m by =
     train_number-same : (u : ℕ) (t : TrainId) → nodes.Train (train u) ≡ nodes.Train t → u ≡ t.0
     train_number-same u t same = let ids : train u ≡ t = cc in ap (λ (x : TrainId). x.0) ids
 
-pub tracks_kept : (tables : Tables) (c : CoreState) (e : Event) (node : NodeKind) (mind : Mind) → IsBy tables c e node mind → ((t : TrainId) → nodes.Track t ≡ node → ⊥) → track_of tables (after tables c e) ≡ track_of tables c
+pub tracks_kept : (tables : Tables) (c : CoreState) (e : Event) (node : NodeKind) (mind : Mind) → IsBy tables c e node mind
+    → ((t : TrainId) → nodes.Track t ≡ node → ⊥) → track_of tables (after tables c e) ≡ track_of tables c
 tracks_kept tables c e node mind by differ =
     fun_ext (λ u. elim (within_or_not u (layout_of tables).trains) [
       | inl there ↦ rw (there.0, mind_kept tables c e node (nodes.Track (train u)) mind by there.1 (differ (train u))) refl
       | inr past ↦ rw past.0 refl
     ])
 
-pub tracks_new : (tables : Tables) (c : CoreState) (e : Event) (t : TrainId) (m : TrackMind) → IsBy tables c e (nodes.Track t) (Track m) → track_of tables (after tables c e) ≡ put (track_of tables c) t.0 m
+pub tracks_new : (tables : Tables) (c : CoreState) (e : Event) (t : TrainId) (m : TrackMind) → IsBy tables c e (nodes.Track t) (Track m)
+    → track_of tables (after tables c e) ≡ put (track_of tables c) t.0 m
 tracks_new tables c e t m by =
     fun_ext (λ u. elim (cases_eq u t.0) [
       | inl same ↦
@@ -103,7 +115,12 @@ tracks_new tables c e t m by =
           elim (within_or_not u (layout_of tables).trains) [
             | inl there ↦
                 let apart : nodes.Track (train u) ≡ nodes.Track t → ⊥ = λ same. other (track_number-same u t same) in
-                rw (set_other (track_of tables c) t.0 m u other, there.0, mind_kept tables c e (nodes.Track t) (nodes.Track (train u)) (Track m) by there.1 apart) refl
+                rw (
+                  set_other (track_of tables c) t.0 m u other,
+                  there.0,
+                  mind_kept tables c e (nodes.Track t) (nodes.Track (train u))
+                      (Track m) by there.1 apart,
+                ) refl
             | inr past ↦ rw (set_other (track_of tables c) t.0 m u other, past.0) refl
           ]
     ])
@@ -111,14 +128,16 @@ tracks_new tables c e t m by =
     track_number-same : (u : ℕ) (t : TrainId) → nodes.Track (train u) ≡ nodes.Track t → u ≡ t.0
     track_number-same u t same = let ids : train u ≡ t = cc in ap (λ (x : TrainId). x.0) ids
 
-pub boxes_kept : (tables : Tables) (c : CoreState) (e : Event) (node : NodeKind) (mind : Mind) → IsBy tables c e node mind → ((b : BoxId) → nodes.Box b ≡ node → ⊥) → box_of tables (after tables c e) ≡ box_of tables c
+pub boxes_kept : (tables : Tables) (c : CoreState) (e : Event) (node : NodeKind) (mind : Mind) → IsBy tables c e node mind
+    → ((b : BoxId) → nodes.Box b ≡ node → ⊥) → box_of tables (after tables c e) ≡ box_of tables c
 boxes_kept tables c e node mind by differ =
     fun_ext (λ u. elim (within_or_not u (layout_of tables).boxes) [
       | inl there ↦ rw (there.0, mind_kept tables c e node (nodes.Box (box u)) mind by there.1 (differ (box u))) refl
       | inr past ↦ rw past.0 refl
     ])
 
-pub boxes_new : (tables : Tables) (c : CoreState) (e : Event) (b : BoxId) (m : BoxMind) → IsBy tables c e (nodes.Box b) (Box m) → box_of tables (after tables c e) ≡ put (box_of tables c) b.0 m
+pub boxes_new : (tables : Tables) (c : CoreState) (e : Event) (b : BoxId) (m : BoxMind) → IsBy tables c e (nodes.Box b) (Box m)
+    → box_of tables (after tables c e) ≡ put (box_of tables c) b.0 m
 boxes_new tables c e b m by =
     fun_ext (λ u. elim (cases_eq u b.0) [
       | inl same ↦

@@ -26,7 +26,7 @@ there_or_not lay (words.Mail t) = elim (cases_lt t.0 lay.trains) [ inl h ↦ inl
 there_or_not lay (words.Run t) = elim (cases_lt t.0 lay.trains) [ inl h ↦ inl (grind (arith, nat_tests), h) | inr h ↦ inr (grind (arith, nat_tests)) ]
 there_or_not lay (words.Sense t) = elim (cases_lt t.0 lay.trains) [ inl h ↦ inl (grind (arith, nat_tests), h) | inr h ↦ inr (grind (arith, nat_tests)) ]
 
-has_word-true : (lay : Layout) (kind : WordKind) → HasWord lay kind → has_word lay kind ≡ true
+pub has_word-true : (lay : Layout) (kind : WordKind) → HasWord lay kind → has_word lay kind ≡ true
 has_word-true lay words.Still h = refl
 has_word-true lay (words.Resv b) h = grind (arith, nat_tests)
 has_word-true lay (words.Lock b) h = grind (arith, nat_tests)
@@ -35,7 +35,8 @@ has_word-true lay (words.Run t) h = grind (arith, nat_tests)
 has_word-true lay (words.Sense t) h = grind (arith, nat_tests)
 
 -- the payload that a word has where it is read by its number
-pub payload_read : (tables : Tables) (c : CoreState) (kind : WordKind) (w was : ℕ) → word_at (layout_of tables) w ≡ Some kind → slice_get c.words w ≡ Some was → payload_of tables c kind ≡ payload_in was
+pub payload_read : (tables : Tables) (c : CoreState) (kind : WordKind) (w was : ℕ) → word_at (layout_of tables) w ≡ Some kind
+    → slice_get c.words w ≡ Some was → payload_of tables c kind ≡ payload_in was
 payload_read tables c kind w was at word =
     let is = word_at-some (layout_of tables) w kind at in
     let got : slice_index_or c.words w 0 ≡ was = get_or_from_slice_get c.words w was 0 word in
@@ -47,14 +48,16 @@ payload_of_stamped stamp payload small =
     let one : (payload + stamp * 2 ^ 32) / 1 ≡ payload + stamp * 2 ^ 32 = omega arith in
     rw one rest
 
-pub payload_changed : (tables : Tables) (c : CoreState) (e : Event) (kind : WordKind) (new : ℕ) → word_at (layout_of tables) e.word.0 ≡ Some kind → slice_get c.words e.word.0 ≡ Some e.was → e.now ≡ stamped e.stamp new → new < 2 ^ 32 → payload_of tables (after tables c e) kind ≡ new
+pub payload_changed : (tables : Tables) (c : CoreState) (e : Event) (kind : WordKind) (new : ℕ) → word_at (layout_of tables) e.word.0 ≡ Some kind
+    → slice_get c.words e.word.0 ≡ Some e.was → e.now ≡ stamped e.stamp new → new < 2 ^ 32 → payload_of tables (after tables c e) kind ≡ new
 payload_changed tables c e kind new at word now small =
     let is = word_at-some (layout_of tables) e.word.0 kind at in
     let within : e.word.0 < length c.words = slice_get_within c.words e.word.0 e.was word in
     let got : slice_index_or (slice_set c.words e.word.0 e.now) e.word.0 0 ≡ e.now = get_or-set_same c.words e.word.0 e.now 0 within in
     rw (has_word-true (layout_of tables) kind is.0, is.1, got, now) (payload_of_stamped e.stamp new small)
 
-pub payload_kept : (tables : Tables) (c : CoreState) (e : Event) (kind other : WordKind) → word_at (layout_of tables) e.word.0 ≡ Some kind → (other ≡ kind → ⊥) → payload_of tables (after tables c e) other ≡ payload_of tables c other
+pub payload_kept : (tables : Tables) (c : CoreState) (e : Event) (kind other : WordKind) → word_at (layout_of tables) e.word.0 ≡ Some kind
+    → (other ≡ kind → ⊥) → payload_of tables (after tables c e) other ≡ payload_of tables c other
 payload_kept tables c e kind other at differ =
     elim (there_or_not (layout_of tables) other) [
       | inl there ↦
@@ -62,7 +65,9 @@ payload_kept tables c e kind other at differ =
           let mine : word_at (layout_of tables) (word_number (layout_of tables) other) ≡ Some other = word_at-number (layout_of tables) other there.1 in
           let his : word_at (layout_of tables) (word_number (layout_of tables) other) ≡ Some kind = rw same at in
           differ (cc (mine, his)) in
-          let got : slice_index_or (slice_set c.words e.word.0 e.now) (word_number (layout_of tables) other) 0 ≡ slice_index_or c.words (word_number (layout_of tables) other) 0 = get_or-set_other c.words e.word.0 (word_number (layout_of tables) other) e.now 0 apart in
+          let got : slice_index_or (slice_set c.words e.word.0 e.now) (word_number (layout_of tables) other) 0
+          ≡ slice_index_or c.words (word_number (layout_of tables) other) 0 =
+          get_or-set_other c.words e.word.0 (word_number (layout_of tables) other) e.now 0 apart in
           rw (there.0, got) refl
       | inr not_there ↦ rw not_there refl
     ]

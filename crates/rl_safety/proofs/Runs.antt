@@ -57,7 +57,8 @@ pub record Laws : Type 0 where
   pub arms : KeepsArms
 
 -- a step that a route has
-row_in : (o : Option TrainTable) (k : ℕ) → k < option_map_or (λ (x : TrainTable). length x.rows) o 0 → option_and_then (λ (x : TrainTable). slice_get x.rows k) o ≡ Some (unwrap_or (option_and_then (λ (x : TrainTable). slice_get x.rows k) o) no_row)
+row_in : (o : Option TrainTable) (k : ℕ) → k < option_map_or (λ (x : TrainTable). length x.rows) o 0
+    → option_and_then (λ (x : TrainTable). slice_get x.rows k) o ≡ Some (unwrap_or (option_and_then (λ (x : TrainTable). slice_get x.rows k) o) no_row)
 row_in None k within = absurd (omega arith)
 row_in (Some x) k within = in_list x.rows k within
   where
@@ -109,8 +110,12 @@ across_on_route line tries s t k agrees is = by (is_passing (s.trains t)) refl
         omega (arith, same, way)
 
 -- the step of any node
-node_event : Laws → (tables : Tables) (tries : ℕ) (c : CoreState) (node : NodeKind) (mind : Mind) (kind : WordKind) (payload : ℕ) (made : ℕ × Mind) → IsLine tables → Agrees (line_of tables) tries (read tables tries c) → HasNode (layout_of tables) node → HasWord (layout_of tables) kind → c.minds (node_number (layout_of tables) node) ≡ mind → IsMindOf tables node mind → payload_of tables c kind ≡ payload → step_of tables node mind kind payload ≡ Some made → IsStepAt tables (read tables tries c) node kind payload made
-node_event laws tables tries c (nodes.Train t) (Train m) kind payload made line agrees there has mind sound is step = train_event laws.steps laws.words tables tries c t m kind payload made line there mind sound is step
+node_event : Laws → (tables : Tables) (tries : ℕ) (c : CoreState) (node : NodeKind) (mind : Mind) (kind : WordKind) (payload : ℕ) (made : ℕ × Mind)
+    → IsLine tables → Agrees (line_of tables) tries (read tables tries c) → HasNode (layout_of tables) node → HasWord (layout_of tables) kind
+    → c.minds (node_number (layout_of tables) node) ≡ mind → IsMindOf tables node mind → payload_of tables c kind ≡ payload
+    → step_of tables node mind kind payload ≡ Some made → IsStepAt tables (read tables tries c) node kind payload made
+node_event laws tables tries c (nodes.Train t) (Train m) kind payload made line agrees there has mind sound is step =
+    train_event laws.steps laws.words tables tries c t m kind payload made line there mind sound is step
 node_event laws tables tries c (nodes.Train t) (Track m) kind payload made line agrees there has mind sound is step = absurd sound
 node_event laws tables tries c (nodes.Train t) (Box m) kind payload made line agrees there has mind sound is step = absurd sound
 node_event laws tables tries c (nodes.Train t) (Machine m) kind payload made line agrees there has mind sound is step = absurd sound
@@ -123,22 +128,29 @@ node_event laws tables tries c (nodes.Track t) (Box m) kind payload made line ag
 node_event laws tables tries c (nodes.Track t) (Machine m) kind payload made line agrees there has mind sound is step = absurd sound
 node_event laws tables tries c (nodes.Box b) (Train m) kind payload made line agrees there has mind sound is step = absurd sound
 node_event laws tables tries c (nodes.Box b) (Track m) kind payload made line agrees there has mind sound is step = absurd sound
-node_event laws tables tries c (nodes.Box b) (Box m) kind payload made line agrees there has mind sound is step = box_event laws.steps laws.words laws.arms tables tries c b m kind payload made line has there mind sound is step
+node_event laws tables tries c (nodes.Box b) (Box m) kind payload made line agrees there has mind sound is step =
+    box_event laws.steps laws.words laws.arms tables tries c b m kind payload made line has there mind sound is step
 node_event laws tables tries c (nodes.Box b) (Machine m) kind payload made line agrees there has mind sound is step = absurd sound
 node_event laws tables tries c (nodes.Machine b) (Train m) kind payload made line agrees there has mind sound is step = absurd sound
 node_event laws tables tries c (nodes.Machine b) (Track m) kind payload made line agrees there has mind sound is step = absurd sound
 node_event laws tables tries c (nodes.Machine b) (Box m) kind payload made line agrees there has mind sound is step = absurd sound
-node_event laws tables tries c (nodes.Machine b) (Machine m) kind payload made line agrees there has mind sound is step = machine_event laws.steps laws.words tables tries c b m kind payload made there is step
+node_event laws tables tries c (nodes.Machine b) (Machine m) kind payload made line agrees there has mind sound is step =
+    machine_event laws.steps laws.words tables tries c b m kind payload made there is step
 
-pub event_step : Laws → (tables : Tables) (tries : ℕ) (c : CoreState) (e : Event) → IsLine tables → AreMinded tables c → Agrees (line_of tables) tries (read tables tries c) → runs.Fits tables c e → IsEventStep tables tries c e
+pub event_step : Laws → (tables : Tables) (tries : ℕ) (c : CoreState) (e : Event) → IsLine tables → AreMinded tables c
+    → Agrees (line_of tables) tries (read tables tries c) → runs.Fits tables c e → IsEventStep tables tries c e
 event_step laws tables tries c e line minded agrees fits =
     let made : IsMade tables c e = fits_made tables c e fits in
-    let node = from_then (λ node. option_and_then (λ word. step_of tables node (c.minds e.node.0) word (payload_in e.was)) (word_at (layout_of tables) e.word.0)) (node_at (layout_of tables) e.node.0) made.made (unfold node_step in made.step) in
+    let node =
+    from_then (λ node. option_and_then (λ word. step_of tables node (c.minds e.node.0) word (payload_in e.was)) (word_at (layout_of tables) e.word.0))
+    (node_at (layout_of tables) e.node.0) made.made (unfold node_step in made.step) in
     let kind = from_then (λ kind. step_of tables node.0 (c.minds e.node.0) kind (payload_in e.was)) (word_at (layout_of tables) e.word.0) made.made node.2 in
     let node_is = node_at-some (layout_of tables) e.node.0 node.0 node.1 in
     let kind_is = word_at-some (layout_of tables) e.word.0 kind.0 kind.1 in
     let mind : c.minds (node_number (layout_of tables) node.0) ≡ c.minds e.node.0 = ap c.minds node_is.1 in
-    let there = node_event laws tables tries c node.0 (c.minds e.node.0) kind.0 (payload_in e.was) made.made line agrees node_is.0 kind_is.0 mind (minded e.node.0 node.0 node.1) (payload_read tables c kind.0 e.word.0 e.was kind.1 made.was) kind.2 in
+    let there =
+    node_event laws tables tries c node.0 (c.minds e.node.0) kind.0 (payload_in e.was) made.made line agrees node_is.0 kind_is.0 mind
+    (minded e.node.0 node.0 node.1) (payload_read tables c kind.0 e.word.0 e.was kind.1 made.was) kind.2 in
     from_step tables tries c e node.0 kind.0 made node.1 kind.1 there
 
 -- a count over a list with one more at its head
@@ -156,10 +168,13 @@ train_apart : (t u : TrainId) → (t.0 ≡ u.0 → ⊥) → (t.0 == u.0) ≡ fal
 train_apart t u differ = ne_eqb t.0 u.0 differ
 
 same_apart : (x y : NodeKind) → (x ≡ y → ⊥) → same_node x y ≡ false
-same_apart (nodes.Train t) (nodes.Train u) differ = ne_eqb t.0 u.0 (λ same. differ (ap (λ (n : ℕ). let made : TrainId = record { 0 = n } in nodes.Train made) same))
-same_apart (nodes.Track t) (nodes.Track u) differ = ne_eqb t.0 u.0 (λ same. differ (ap (λ (n : ℕ). let made : TrainId = record { 0 = n } in nodes.Track made) same))
+same_apart (nodes.Train t) (nodes.Train u) differ =
+    ne_eqb t.0 u.0 (λ same. differ (ap (λ (n : ℕ). let made : TrainId = record { 0 = n } in nodes.Train made) same))
+same_apart (nodes.Track t) (nodes.Track u) differ =
+    ne_eqb t.0 u.0 (λ same. differ (ap (λ (n : ℕ). let made : TrainId = record { 0 = n } in nodes.Track made) same))
 same_apart (nodes.Box b) (nodes.Box c) differ = ne_eqb b.0 c.0 (λ same. differ (ap (λ (n : ℕ). let made : BoxId = record { 0 = n } in nodes.Box made) same))
-same_apart (nodes.Machine b) (nodes.Machine c) differ = ne_eqb b.0 c.0 (λ same. differ (ap (λ (n : ℕ). let made : BoxId = record { 0 = n } in nodes.Machine made) same))
+same_apart (nodes.Machine b) (nodes.Machine c) differ =
+    ne_eqb b.0 c.0 (λ same. differ (ap (λ (n : ℕ). let made : BoxId = record { 0 = n } in nodes.Machine made) same))
 same_apart (nodes.Train t) (nodes.Track u) differ = refl
 same_apart (nodes.Train t) (nodes.Box b) differ = refl
 same_apart (nodes.Train t) (nodes.Machine b) differ = refl
@@ -191,15 +206,19 @@ by_number lay m n x y at_m at_n =
 
 -- what is so of steps, by the protocol's own law
 abbrev pub Agreeing : Type 0
-Agreeing = (line : Line) (tries : ℕ) (steps : List Step) → IsConsistent line → protocol.IsRun line tries steps → Agrees line tries (protocol.state_after line tries steps)
+Agreeing =
+    (line : Line) (tries : ℕ) (steps : List Step) → IsConsistent line → protocol.IsRun line tries steps
+    → Agrees line tries (protocol.state_after line tries steps)
 
-pub run_stepped : Laws → ReadsValues → Agreeing → (tables : Tables) (tries : ℕ) (events : List Event) → IsLine tables → IsConsistent (line_of tables) → tries ≤ 1000 → runs.IsRun tables tries events → IsStepped tables tries events
+pub run_stepped : Laws → ReadsValues → Agreeing → (tables : Tables) (tries : ℕ) (events : List Event) → IsLine tables → IsConsistent (line_of tables)
+    → tries ≤ 1000 → runs.IsRun tables tries events → IsStepped tables tries events
 run_stepped laws values agreeing tables tries [] line fine few run =
     record { steps = []; run = tt; state = start_read values tables tries line; moves = refl; count = refl; by = λ n node at. refl }
 run_stepped laws values agreeing tables tries (e ∷ earlier) line fine few run =
     let before = run_stepped laws values agreeing tables tries earlier line fine few run.0 in
     let agrees_there = agreeing (line_of tables) tries before.steps fine before.run in
-    let agrees : Agrees (line_of tables) tries (read tables tries (runs.state tables tries earlier)) = subst (Agrees (line_of tables) tries) (sym before.state) agrees_there in
+    let agrees : Agrees (line_of tables) tries (read tables tries (runs.state tables tries earlier)) =
+    subst (Agrees (line_of tables) tries) (sym before.state) agrees_there in
     let minded = runs_minded laws.steps tables tries earlier line few run.0 in
     let made = event_step laws tables tries (runs.state tables tries earlier) e line minded agrees run.1 in
     let F : State → Type 0 = λ s. Fits (line_of tables) s made.step in
@@ -211,6 +230,7 @@ run_stepped laws values agreeing tables tries (e ∷ earlier) line fine few run 
       count = ap suc before.count;
       by = λ n node at.
           let test : same_node (node_of made.step) node ≡ (e.node.0 == n) = rw made.by (by_number (layout_of tables) e.node.0 n made.node node made.at at) in
-          let counts : cond (e.node.0 == n) 1 0 + events_by n earlier ≡ cond (same_node (node_of made.step) node) 1 0 + events_of node before.steps = rw (before.by n node at, test) refl in
+          let counts : cond (e.node.0 == n) 1 0 + events_by n earlier ≡ cond (same_node (node_of made.step) node) 1 0 + events_of node before.steps =
+          rw (before.by n node at, test) refl in
           count_one (λ (x : Event). x.node.0 == n) e earlier ∙ counts ∙ sym (count_one (λ (x : Step). same_node (node_of x) node) made.step before.steps);
     }

@@ -71,8 +71,10 @@ tracks_start : (tables : Tables) (tries : ℕ) → track_of tables (cores.start 
 tracks_start tables tries =
     fun_ext (λ t. elim (within_or_not t (layout_of tables).trains) [
       | inl there ↦
-          let at : node_at (layout_of tables) (node_number (layout_of tables) (nodes.Track (train t))) ≡ Some (nodes.Track (train t)) = node_at-number (layout_of tables) (nodes.Track (train t)) there.1 in
-          let mind : start_mind tables tries (node_number (layout_of tables) (nodes.Track (train t))) ≡ start_mind_of tries (Some (nodes.Track (train t))) = ap (start_mind_of tries) at in
+          let at : node_at (layout_of tables) (node_number (layout_of tables) (nodes.Track (train t))) ≡ Some (nodes.Track (train t)) =
+          node_at-number (layout_of tables) (nodes.Track (train t)) there.1 in
+          let mind : start_mind tables tries (node_number (layout_of tables) (nodes.Track (train t))) ≡ start_mind_of tries (Some (nodes.Track (train t))) =
+          ap (start_mind_of tries) at in
           rw there.0 (ap track_mind mind)
       | inr past ↦ rw past.0 refl
     ])
@@ -81,14 +83,16 @@ boxes_start : (tables : Tables) (tries : ℕ) → box_of tables (cores.start tab
 boxes_start tables tries =
     fun_ext (λ b. elim (within_or_not b (layout_of tables).boxes) [
       | inl there ↦
-          let at : node_at (layout_of tables) (node_number (layout_of tables) (nodes.Box (box b))) ≡ Some (nodes.Box (box b)) = node_at-number (layout_of tables) (nodes.Box (box b)) there.1 in
-          let mind : start_mind tables tries (node_number (layout_of tables) (nodes.Box (box b))) ≡ start_mind_of tries (Some (nodes.Box (box b))) = ap (start_mind_of tries) at in
+          let at : node_at (layout_of tables) (node_number (layout_of tables) (nodes.Box (box b))) ≡ Some (nodes.Box (box b)) =
+          node_at-number (layout_of tables) (nodes.Box (box b)) there.1 in
+          let mind : start_mind tables tries (node_number (layout_of tables) (nodes.Box (box b))) ≡ start_mind_of tries (Some (nodes.Box (box b))) =
+          ap (start_mind_of tries) at in
           rw there.0 (ap box_mind mind)
       | inr past ↦ rw past.0 refl
     ])
 
 -- payloads
-number_within : (lay : Layout) (kind : WordKind) → HasWord lay kind → word_number lay kind < word_count lay
+pub number_within : (lay : Layout) (kind : WordKind) → HasWord lay kind → word_number lay kind < word_count lay
 number_within lay kinds.Still h = omega arith
 number_within lay (kinds.Resv b) h = omega arith
 number_within lay (kinds.Lock b) h = omega arith
@@ -102,20 +106,30 @@ payload_small v small =
     let rest : v % 2 ^ 32 ≡ v = omega arith in
     rw one rest
 
-payload_start : (tables : Tables) (tries : ℕ) (kind : WordKind) → IsLine tables → has_word (layout_of tables) kind ≡ true → HasWord (layout_of tables) kind → payload_of tables (cores.start tables tries) kind ≡ start_payload tables kind
+pub payload_start : (tables : Tables) (tries : ℕ) (kind : WordKind) → IsLine tables → has_word (layout_of tables) kind ≡ true
+    → HasWord (layout_of tables) kind → payload_of tables (cores.start tables tries) kind ≡ start_payload tables kind
 payload_start tables tries kind line test there =
     let n : ℕ = word_number (layout_of tables) kind in
-    let got : slice_get (start_words tables (word_count (layout_of tables))) (word_number (layout_of tables) kind) ≡ Some (start_word tables (word_number (layout_of tables) kind)) = start_words-get tables (word_count (layout_of tables)) (word_number (layout_of tables) kind) (number_within (layout_of tables) kind there) in
-    let read : slice_index_or (start_words tables (word_count (layout_of tables))) (word_number (layout_of tables) kind) 0 ≡ start_word tables (word_number (layout_of tables) kind) = get_or_from_slice_get (start_words tables (word_count (layout_of tables))) (word_number (layout_of tables) kind) (start_word tables (word_number (layout_of tables) kind)) 0 got in
-    let is : start_word tables (word_number (layout_of tables) kind) ≡ start_payload tables kind = ap (λ (o : Option WordKind). option_map_or (start_payload tables) o 0) (word_at-number (layout_of tables) kind there) in
-    let small : payload_in (start_word tables (word_number (layout_of tables) kind)) ≡ start_word tables (word_number (layout_of tables) kind) = payload_small (start_word tables (word_number (layout_of tables) kind)) (start_fits tables (word_number (layout_of tables) kind) line) in
+    let got : slice_get (start_words tables (word_count (layout_of tables))) (word_number (layout_of tables) kind)
+    ≡ Some (start_word tables (word_number (layout_of tables) kind)) =
+    start_words-get tables (word_count (layout_of tables)) (word_number (layout_of tables) kind) (number_within (layout_of tables) kind there) in
+    let read : slice_index_or (start_words tables (word_count (layout_of tables))) (word_number (layout_of tables) kind) 0
+    ≡ start_word tables (word_number (layout_of tables) kind) =
+    get_or_from_slice_get (start_words tables (word_count (layout_of tables))) (word_number (layout_of tables) kind)
+    (start_word tables (word_number (layout_of tables) kind)) 0 got in
+    let is : start_word tables (word_number (layout_of tables) kind) ≡ start_payload tables kind =
+    ap (λ (o : Option WordKind). option_map_or (start_payload tables) o 0) (word_at-number (layout_of tables) kind there) in
+    let small : payload_in (start_word tables (word_number (layout_of tables) kind)) ≡ start_word tables (word_number (layout_of tables) kind) =
+    payload_small (start_word tables (word_number (layout_of tables) kind)) (start_fits tables (word_number (layout_of tables) kind) line) in
     rw (test, read) (small ∙ is)
 
-payload_absent : (tables : Tables) (tries : ℕ) (kind : WordKind) → has_word (layout_of tables) kind ≡ false → payload_of tables (cores.start tables tries) kind ≡ 0
+payload_absent : (tables : Tables) (tries : ℕ) (kind : WordKind) → has_word (layout_of tables) kind ≡ false
+    → payload_of tables (cores.start tables tries) kind ≡ 0
 payload_absent tables tries kind test = rw test refl
 
 -- mail, run and sense
-mails_start : ReadsValues → (tables : Tables) (tries : ℕ) → IsLine tables → mail_in tables (cores.start tables tries) ≡ (protocol.start (line_of tables) tries).mail
+mails_start : ReadsValues → (tables : Tables) (tries : ℕ) → IsLine tables
+    → mail_in tables (cores.start tables tries) ≡ (protocol.start (line_of tables) tries).mail
 mails_start laws tables tries line =
     fun_ext (λ t. ap (λ n. unwrap_or (read_mail n) Empty) (zero_of t) ∙ ap (λ o. unwrap_or o Empty) (laws.mail Empty tt))
   where
@@ -125,7 +139,8 @@ mails_start laws tables tries line =
       | inr past ↦ payload_absent tables tries (kinds.Mail (train t)) past.0
     ]
 
-runs_start : ReadsValues → (tables : Tables) (tries : ℕ) → IsLine tables → run_in tables (cores.start tables tries) ≡ (protocol.start (line_of tables) tries).run
+runs_start : ReadsValues → (tables : Tables) (tries : ℕ) → IsLine tables
+    → run_in tables (cores.start tables tries) ≡ (protocol.start (line_of tables) tries).run
 runs_start laws tables tries line =
     fun_ext (λ t. ap (λ n. unwrap_or (read_run n) (Clear 0)) (zero_of t) ∙ ap (λ o. unwrap_or o (Clear 0)) (laws.run (Clear 0) (omega arith)))
   where
@@ -135,7 +150,8 @@ runs_start laws tables tries line =
       | inr past ↦ payload_absent tables tries (kinds.Run (train t)) past.0
     ]
 
-senses_start : ReadsValues → (tables : Tables) (tries : ℕ) → IsLine tables → sense_in tables (cores.start tables tries) ≡ (protocol.start (line_of tables) tries).sense
+senses_start : ReadsValues → (tables : Tables) (tries : ℕ) → IsLine tables
+    → sense_in tables (cores.start tables tries) ≡ (protocol.start (line_of tables) tries).sense
 senses_start laws tables tries line =
     fun_ext (λ t. ap (λ n. unwrap_or (read_sense n) (Quiet 0)) (zero_of t) ∙ ap (λ o. unwrap_or o (Quiet 0)) (laws.sense (Quiet 0) (omega arith)))
   where
@@ -146,11 +162,13 @@ senses_start laws tables tries line =
     ]
 
 -- locks
-lock_start : ReadsValues → (tables : Tables) (o : Option BoxTable) → unwrap_or (read_lock (option_map_or (λ x. packed_lock (start_lock x)) o 0)) (Free Left) ≡ Free (option_map_or (λ (x : BoxTable). x.side) o Left)
+lock_start : ReadsValues → (tables : Tables) (o : Option BoxTable)
+    → unwrap_or (read_lock (option_map_or (λ x. packed_lock (start_lock x)) o 0)) (Free Left) ≡ Free (option_map_or (λ (x : BoxTable). x.side) o Left)
 lock_start laws tables None = ap (λ o. unwrap_or o (Free Left)) (laws.lock (Free Left) tt)
 lock_start laws tables (Some x) = ap (λ o. unwrap_or o (Free Left)) (laws.lock (Free x.side) tt)
 
-locks_start : ReadsValues → (tables : Tables) (tries : ℕ) → IsLine tables → lock_in tables (cores.start tables tries) ≡ (protocol.start (line_of tables) tries).lock
+locks_start : ReadsValues → (tables : Tables) (tries : ℕ) → IsLine tables
+    → lock_in tables (cores.start tables tries) ≡ (protocol.start (line_of tables) tries).lock
 locks_start laws tables tries line =
     fun_ext (λ b. elim (within_or_not b (layout_of tables).boxes) [
       | inl there ↦
@@ -171,8 +189,9 @@ arm_fits tables (Some s) line = of (holder_of tables s.0) refl
     of None e = tt
     of (Some t) e = holder_fits tables s.0 t line e
 
-resv_fits : (tables : Tables) (x : BoxTable) → IsLine tables → FitsResv (start_resv tables x)
-resv_fits tables x line = record { arm0 = arm_fits tables x.seg0 line; arm1 = arm_fits tables x.seg1 line; arm2 = arm_fits tables x.seg2 line; arm3 = arm_fits tables x.seg3 line }
+pub resv_fits : (tables : Tables) (x : BoxTable) → IsLine tables → FitsResv (start_resv tables x)
+resv_fits tables x line =
+    record { arm0 = arm_fits tables x.seg0 line; arm1 = arm_fits tables x.seg1 line; arm2 = arm_fits tables x.seg2 line; arm3 = arm_fits tables x.seg3 line }
 
 arm_is : (tables : Tables) (s : Option SegId) → arm_holder tables s ≡ option_and_then (holder_of tables) (option_map (λ (g : SegId). g.0) s)
 arm_is tables None = refl
@@ -192,13 +211,17 @@ no_arms (suc (suc zero)) = refl
 no_arms (suc (suc (suc zero))) = refl
 no_arms (suc (suc (suc (suc i)))) = let beyond : nat_lt (suc (suc (suc (suc i)))) 4 ≡ false = grind (arith, nat_tests) in rw beyond refl
 
-resv_start : ReadsValues → (tables : Tables) (o : Option BoxTable) (i : ℕ) → IsLine tables → reading.holder_of (read_resv (option_map_or (λ x. packed_resv (start_resv tables x)) o 0)) i ≡ option_and_then (holder_of tables) (option_and_then (λ (x : BoxTable). segment_number x i) o)
+resv_start : ReadsValues → (tables : Tables) (o : Option BoxTable) (i : ℕ) → IsLine tables
+    → reading.holder_of (read_resv (option_map_or (λ x. packed_resv (start_resv tables x)) o 0)) i
+    ≡ option_and_then (holder_of tables) (option_and_then (λ (x : BoxTable). segment_number x i) o)
 resv_start laws tables None i line =
     let none : ResvWord = record { arm0 = None; arm1 = None; arm2 = None; arm3 = None } in
-    ap (λ o. reading.holder_of o i) (laws.resv (record { arm0 = None; arm1 = None; arm2 = None; arm3 = None }) (record { arm0 = tt; arm1 = tt; arm2 = tt; arm3 = tt })) ∙ no_arms i
+    ap (λ o. reading.holder_of o i) (laws.resv (record { arm0 = None; arm1 = None; arm2 = None; arm3 = None })
+    (record { arm0 = tt; arm1 = tt; arm2 = tt; arm3 = tt })) ∙ no_arms i
 resv_start laws tables (Some x) i line = ap (λ o. reading.holder_of o i) (laws.resv (start_resv tables x) (resv_fits tables x line)) ∙ arms_are tables x i
 
-resvs_start : ReadsValues → (tables : Tables) (tries : ℕ) → IsLine tables → holder_in tables (cores.start tables tries) ≡ (protocol.start (line_of tables) tries).resv
+resvs_start : ReadsValues → (tables : Tables) (tries : ℕ) → IsLine tables
+    → holder_in tables (cores.start tables tries) ≡ (protocol.start (line_of tables) tries).resv
 resvs_start laws tables tries line =
     fun_ext (λ b. fun_ext (λ i. elim (within_or_not b (layout_of tables).boxes) [
       | inl there ↦
@@ -207,10 +230,12 @@ resvs_start laws tables tries line =
       | inr past ↦
           let absent : slice_get tables.boxes b ≡ None = slice_get_past tables.boxes b past.1 in
           ap (λ n. reading.holder_of (read_resv n) i) (payload_absent tables tries (kinds.Resv (box b)) past.0)
-          ∙ (resv_start laws tables None i line ∙ ap (λ (o : Option BoxTable). option_and_then (holder_of tables) (option_and_then (λ (x : BoxTable). segment_number x i) o)) (sym absent))
+          ∙ (resv_start laws tables None i line ∙ ap (λ (o : Option BoxTable). option_and_then (holder_of tables)
+          (option_and_then (λ (x : BoxTable). segment_number x i) o)) (sym absent))
     ]))
 
-pub start_read : ReadsValues → (tables : Tables) (tries : ℕ) → IsLine tables → read tables tries (cores.start tables tries) ≡ protocol.start (line_of tables) tries
+pub start_read : ReadsValues → (tables : Tables) (tries : ℕ) → IsLine tables
+    → read tables tries (cores.start tables tries) ≡ protocol.start (line_of tables) tries
 start_read laws tables tries line =
     same_state (read tables tries (cores.start tables tries)) (protocol.start (line_of tables) tries)
     (trains_start tables tries) (tracks_start tables tries) (boxes_start tables tries)

@@ -41,11 +41,13 @@ swapped true false c e = refl
 swapped false true c e = refl
 swapped false false c e = refl
 
-rests_not : (tables : Tables) (s : State) (x : TrainTable) (m : TrainMind) → IsTrainHere tables s x m → is_resting x m ≡ false → minds.at_rest (line_of tables) x.number.0 m ≡ false
+rests_not : (tables : Tables) (s : State) (x : TrainTable) (m : TrainMind) → IsTrainHere tables s x m → is_resting x m ≡ false
+    → minds.at_rest (line_of tables) x.number.0 m ≡ false
 unfolding begins
 rests_not tables s x m here not_resting = rw here.steps (swapped (is_near m.job) (not m.waits) (m.step == length x.rows || m.left == 0) not_resting)
 
-letter_is : (tables : Tables) (s : State) (x : TrainTable) (m : TrainMind) (row : StepRow) (l : Letter) → IsTrainHere tables s x m → row_of x m ≡ Some row → letter row m.job ≡ Some l → minds.letter_of (line_of tables) x.number.0 m ≡ Some l
+letter_is : (tables : Tables) (s : State) (x : TrainTable) (m : TrainMind) (row : StepRow) (l : Letter) → IsTrainHere tables s x m
+    → row_of x m ≡ Some row → letter row m.job ≡ Some l → minds.letter_of (line_of tables) x.number.0 m ≡ Some l
 unfolding letter_at
 letter_is tables s x m row l here is_row is_letter = rw (here.row row is_row) is_letter
 
@@ -53,11 +55,13 @@ posted_is : (m : TrainMind) → minds.posted m ≡ trains.posted m
 unfolding begins
 posted_is m = refl
 
-heard_is : (tables : Tables) (s : State) (x : TrainTable) (m : TrainMind) (row : StepRow) → IsTrainHere tables s x m → row_of x m ≡ Some row → minds.heard (line_of tables) x.number.0 m ≡ trains.heard row m
+heard_is : (tables : Tables) (s : State) (x : TrainTable) (m : TrainMind) (row : StepRow) → IsTrainHere tables s x m → row_of x m ≡ Some row
+    → minds.heard (line_of tables) x.number.0 m ≡ trains.heard row m
 unfolding job_after_yes finishes
 heard_is tables s x m row here is_row = rw (here.row row is_row) refl
 
-after_no_is : (tables : Tables) (s : State) (x : TrainTable) (m : TrainMind) (row : StepRow) (job : Job) → IsTrainHere tables s x m → row_of x m ≡ Some row → after_no row m.job ≡ Some job → job_after_no (minds.row_of (line_of tables) x.number.0 m) m.job ≡ Some job
+after_no_is : (tables : Tables) (s : State) (x : TrainTable) (m : TrainMind) (row : StepRow) (job : Job) → IsTrainHere tables s x m
+    → row_of x m ≡ Some row → after_no row m.job ≡ Some job → job_after_no (minds.row_of (line_of tables) x.number.0 m) m.job ≡ Some job
 unfolding job_after_no
 after_no_is tables s x m row job here is_row is_job = rw (here.row row is_row) is_job
 
@@ -69,7 +73,8 @@ passed_is : (tables : Tables) (t : ℕ) (m : TrainMind) → m.job ≡ Pass → m
 unfolding job_after_yes
 passed_is tables t m is = rw is refl
 
-pub train_label : (tables : Tables) (s : State) (x : TrainTable) (m after : TrainMind) (seen left : Word) → IsTrainHere tables s x m → Says s seen → TrainStep x m seen left after → IsLabel tables s (nodes.Train x.number) (Train after) seen left
+pub train_label : (tables : Tables) (s : State) (x : TrainTable) (m after : TrainMind) (seen left : Word) → IsTrainHere tables s x m → Says s seen
+    → TrainStep x m seen left after → IsLabel tables s (nodes.Train x.number) (Train after) seen left
 train_label tables s x m after seen left here says (post row l is_row is_letter waits rests) =
     record {
       step = post_label x.number.0 l;
@@ -89,7 +94,13 @@ train_label tables s x m after seen left here says (hear_yes row l is_row is_let
 train_label tables s x m after seen left here says (hear_no row l u job is_row is_letter is_job waits) =
     record {
       step = hear_no_label x.number.0 l u job;
-      fits = (rw here.mind waits, rw here.mind (letter_is tables s x m row l here is_row is_letter), says, rw here.mind (after_no_is tables s x m row job here is_row is_job));
+      fits = (
+        rw here.mind waits,
+        rw here.mind (letter_is tables s x m row l here is_row is_letter),
+        says,
+        rw here.mind
+            (after_no_is tables s x m row job here is_row is_job),
+      );
       leaves = rw here.mind refl;
       moves = refl;
       by = refl;
@@ -112,7 +123,10 @@ train_label tables s x m after seen left here says (quiet is_pass waits) =
     }
 
 -- the track of a train, which passes a step that the train has
-pub track_label : (tables : Tables) (s : State) (t : TrainId) (m after : TrackMind) (seen left : Word) → s.tracks t.0 ≡ m → Says s seen → ((k : ℕ) → m ≡ track_at k Watch → s.run t.0 ≡ Go k → row_at tables t.0 k ≡ Some ((line_of tables).row t.0 k)) → ((k : ℕ) → m ≡ track_at k LeaveDue → s.run t.0 ≡ Across k → row_at tables t.0 k ≡ Some ((line_of tables).row t.0 k)) → TrackStep t m seen left after → IsLabel tables s (nodes.Track t) (Track after) seen left
+pub track_label : (tables : Tables) (s : State) (t : TrainId) (m after : TrackMind) (seen left : Word) → s.tracks t.0 ≡ m → Says s seen
+    → ((k : ℕ) → m ≡ track_at k Watch → s.run t.0 ≡ Go k → row_at tables t.0 k ≡ Some ((line_of tables).row t.0 k))
+    → ((k : ℕ) → m ≡ track_at k LeaveDue → s.run t.0 ≡ Across k → row_at tables t.0 k ≡ Some ((line_of tables).row t.0 k))
+    → TrackStep t m seen left after → IsLabel tables s (nodes.Track t) (Track after) seen left
 track_label tables s t m after seen left mind says enters leaves (enter k) =
     record { step = enter_label t.0 k; fits = (mind, says); leaves = refl; moves = rw (enters k refl says) refl; by = refl }
 track_label tables s t m after seen left mind says enters leaves (head k) =

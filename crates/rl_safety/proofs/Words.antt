@@ -38,7 +38,8 @@ pub record IsOn (tables : Tables) (c : CoreState) (e : Event) (kind : WordKind) 
 here : (tables : Tables) (c : CoreState) (e : Event) (kind : WordKind) (new : ℕ) → IsOn tables c e kind new → payload_of tables (after tables c e) kind ≡ new
 here tables c e kind new on = payload_changed tables c e kind new on.at on.was on.now on.small
 
-kept : (tables : Tables) (c : CoreState) (e : Event) (kind other : WordKind) (new : ℕ) → IsOn tables c e kind new → (other ≡ kind → ⊥) → payload_of tables (after tables c e) other ≡ payload_of tables c other
+kept : (tables : Tables) (c : CoreState) (e : Event) (kind other : WordKind) (new : ℕ) → IsOn tables c e kind new → (other ≡ kind → ⊥)
+    → payload_of tables (after tables c e) other ≡ payload_of tables c other
 kept tables c e kind other new on differ = payload_kept tables c e kind other on.at differ
 
 set_same : {A : Type 0} (f : ℕ → A) (n : ℕ) (v : A) → put f n v n ≡ v
@@ -54,14 +55,17 @@ train_number : (u : ℕ) (t : TrainId) → train u ≡ t → u ≡ t.0
 train_number u t same = ap (λ (x : TrainId). x.0) same
 
 -- locks
-pub locks_kept : (tables : Tables) (c : CoreState) (e : Event) (kind : WordKind) (new : ℕ) → IsOn tables c e kind new → ((b : BoxId) → words.Lock b ≡ kind → ⊥) → lock_in tables (after tables c e) ≡ (lock_in tables c)
+pub locks_kept : (tables : Tables) (c : CoreState) (e : Event) (kind : WordKind) (new : ℕ) → IsOn tables c e kind new
+    → ((b : BoxId) → words.Lock b ≡ kind → ⊥) → lock_in tables (after tables c e) ≡ (lock_in tables c)
 locks_kept tables c e kind new on differ = fun_ext (λ b. rw (kept tables c e kind (words.Lock (box b)) new on (differ (box b))) refl)
 
-pub locks_new : (tables : Tables) (c : CoreState) (e : Event) (b : BoxId) (v : LockWord) (new : ℕ) → IsOn tables c e (words.Lock b) new → read_lock new ≡ Some v → lock_in tables (after tables c e) ≡ put (lock_in tables c) b.0 v
+pub locks_new : (tables : Tables) (c : CoreState) (e : Event) (b : BoxId) (v : LockWord) (new : ℕ) → IsOn tables c e (words.Lock b) new
+    → read_lock new ≡ Some v → lock_in tables (after tables c e) ≡ put (lock_in tables c) b.0 v
 locks_new tables c e b v new on reads =
     fun_ext (λ u. elim (cases_eq u b.0) [
       | inl same ↦
-          let mine : unwrap_or (read_lock (payload_of tables (after tables c e) (words.Lock b))) (Free Left) ≡ v = rw (here tables c e (words.Lock b) new on, reads) refl in
+          let mine : unwrap_or (read_lock (payload_of tables (after tables c e) (words.Lock b))) (Free Left) ≡ v =
+          rw (here tables c e (words.Lock b) new on, reads) refl in
           rw same (mine ∙ sym (set_same (lock_in tables c) b.0 v))
       | inr other ↦
           rw (set_other (lock_in tables c) b.0 v u other)
@@ -69,14 +73,17 @@ locks_new tables c e b v new on reads =
     ])
 
 -- mail
-pub mails_kept : (tables : Tables) (c : CoreState) (e : Event) (kind : WordKind) (new : ℕ) → IsOn tables c e kind new → ((t : TrainId) → words.Mail t ≡ kind → ⊥) → mail_in tables (after tables c e) ≡ (mail_in tables c)
+pub mails_kept : (tables : Tables) (c : CoreState) (e : Event) (kind : WordKind) (new : ℕ) → IsOn tables c e kind new
+    → ((t : TrainId) → words.Mail t ≡ kind → ⊥) → mail_in tables (after tables c e) ≡ (mail_in tables c)
 mails_kept tables c e kind new on differ = fun_ext (λ t. rw (kept tables c e kind (words.Mail (train t)) new on (differ (train t))) refl)
 
-pub mails_new : (tables : Tables) (c : CoreState) (e : Event) (t : TrainId) (v : MailWord) (new : ℕ) → IsOn tables c e (words.Mail t) new → read_mail new ≡ Some v → mail_in tables (after tables c e) ≡ put (mail_in tables c) t.0 v
+pub mails_new : (tables : Tables) (c : CoreState) (e : Event) (t : TrainId) (v : MailWord) (new : ℕ) → IsOn tables c e (words.Mail t) new
+    → read_mail new ≡ Some v → mail_in tables (after tables c e) ≡ put (mail_in tables c) t.0 v
 mails_new tables c e t v new on reads =
     fun_ext (λ u. elim (cases_eq u t.0) [
       | inl same ↦
-          let mine : unwrap_or (read_mail (payload_of tables (after tables c e) (words.Mail t))) Empty ≡ v = rw (here tables c e (words.Mail t) new on, reads) refl in
+          let mine : unwrap_or (read_mail (payload_of tables (after tables c e) (words.Mail t))) Empty ≡ v =
+          rw (here tables c e (words.Mail t) new on, reads) refl in
           rw same (mine ∙ sym (set_same (mail_in tables c) t.0 v))
       | inr other ↦
           rw (set_other (mail_in tables c) t.0 v u other)
@@ -84,14 +91,17 @@ mails_new tables c e t v new on reads =
     ])
 
 -- run
-pub runs_kept : (tables : Tables) (c : CoreState) (e : Event) (kind : WordKind) (new : ℕ) → IsOn tables c e kind new → ((t : TrainId) → words.Run t ≡ kind → ⊥) → run_in tables (after tables c e) ≡ (run_in tables c)
+pub runs_kept : (tables : Tables) (c : CoreState) (e : Event) (kind : WordKind) (new : ℕ) → IsOn tables c e kind new
+    → ((t : TrainId) → words.Run t ≡ kind → ⊥) → run_in tables (after tables c e) ≡ (run_in tables c)
 runs_kept tables c e kind new on differ = fun_ext (λ t. rw (kept tables c e kind (words.Run (train t)) new on (differ (train t))) refl)
 
-pub runs_new : (tables : Tables) (c : CoreState) (e : Event) (t : TrainId) (v : RunWord) (new : ℕ) → IsOn tables c e (words.Run t) new → read_run new ≡ Some v → run_in tables (after tables c e) ≡ put (run_in tables c) t.0 v
+pub runs_new : (tables : Tables) (c : CoreState) (e : Event) (t : TrainId) (v : RunWord) (new : ℕ) → IsOn tables c e (words.Run t) new
+    → read_run new ≡ Some v → run_in tables (after tables c e) ≡ put (run_in tables c) t.0 v
 runs_new tables c e t v new on reads =
     fun_ext (λ u. elim (cases_eq u t.0) [
       | inl same ↦
-          let mine : unwrap_or (read_run (payload_of tables (after tables c e) (words.Run t))) (Clear 0) ≡ v = rw (here tables c e (words.Run t) new on, reads) refl in
+          let mine : unwrap_or (read_run (payload_of tables (after tables c e) (words.Run t))) (Clear 0) ≡ v =
+          rw (here tables c e (words.Run t) new on, reads) refl in
           rw same (mine ∙ sym (set_same (run_in tables c) t.0 v))
       | inr other ↦
           rw (set_other (run_in tables c) t.0 v u other)
@@ -99,14 +109,17 @@ runs_new tables c e t v new on reads =
     ])
 
 -- sense
-pub senses_kept : (tables : Tables) (c : CoreState) (e : Event) (kind : WordKind) (new : ℕ) → IsOn tables c e kind new → ((t : TrainId) → words.Sense t ≡ kind → ⊥) → sense_in tables (after tables c e) ≡ (sense_in tables c)
+pub senses_kept : (tables : Tables) (c : CoreState) (e : Event) (kind : WordKind) (new : ℕ) → IsOn tables c e kind new
+    → ((t : TrainId) → words.Sense t ≡ kind → ⊥) → sense_in tables (after tables c e) ≡ (sense_in tables c)
 senses_kept tables c e kind new on differ = fun_ext (λ t. rw (kept tables c e kind (words.Sense (train t)) new on (differ (train t))) refl)
 
-pub senses_new : (tables : Tables) (c : CoreState) (e : Event) (t : TrainId) (v : SenseWord) (new : ℕ) → IsOn tables c e (words.Sense t) new → read_sense new ≡ Some v → sense_in tables (after tables c e) ≡ put (sense_in tables c) t.0 v
+pub senses_new : (tables : Tables) (c : CoreState) (e : Event) (t : TrainId) (v : SenseWord) (new : ℕ) → IsOn tables c e (words.Sense t) new
+    → read_sense new ≡ Some v → sense_in tables (after tables c e) ≡ put (sense_in tables c) t.0 v
 senses_new tables c e t v new on reads =
     fun_ext (λ u. elim (cases_eq u t.0) [
       | inl same ↦
-          let mine : unwrap_or (read_sense (payload_of tables (after tables c e) (words.Sense t))) (Quiet 0) ≡ v = rw (here tables c e (words.Sense t) new on, reads) refl in
+          let mine : unwrap_or (read_sense (payload_of tables (after tables c e) (words.Sense t))) (Quiet 0) ≡ v =
+          rw (here tables c e (words.Sense t) new on, reads) refl in
           rw same (mine ∙ sym (set_same (sense_in tables c) t.0 v))
       | inr other ↦
           rw (set_other (sense_in tables c) t.0 v u other)
@@ -117,16 +130,20 @@ senses_new tables c e t v new on reads =
 abbrev pub resv_with : (ℕ → ℕ → Option TrainId) → BoxId → ResvWord → ℕ → ℕ → Option TrainId
 resv_with f b w u x = if u == b.0 then holder_of (Some w) x else f u x
 
-pub resvs_kept : (tables : Tables) (c : CoreState) (e : Event) (kind : WordKind) (new : ℕ) → IsOn tables c e kind new → ((b : BoxId) → words.Resv b ≡ kind → ⊥) → holder_in tables (after tables c e) ≡ holder_in tables c
+pub resvs_kept : (tables : Tables) (c : CoreState) (e : Event) (kind : WordKind) (new : ℕ) → IsOn tables c e kind new
+    → ((b : BoxId) → words.Resv b ≡ kind → ⊥) → holder_in tables (after tables c e) ≡ holder_in tables c
 resvs_kept tables c e kind new on differ = fun_ext (λ b. fun_ext (λ x. rw (kept tables c e kind (words.Resv (box b)) new on (differ (box b))) refl))
 
-pub resvs_new : (tables : Tables) (c : CoreState) (e : Event) (b : BoxId) (w : ResvWord) (new : ℕ) → IsOn tables c e (words.Resv b) new → read_resv new ≡ Some w → holder_in tables (after tables c e) ≡ resv_with (holder_in tables c) b w
+pub resvs_new : (tables : Tables) (c : CoreState) (e : Event) (b : BoxId) (w : ResvWord) (new : ℕ) → IsOn tables c e (words.Resv b) new
+    → read_resv new ≡ Some w → holder_in tables (after tables c e) ≡ resv_with (holder_in tables c) b w
 resvs_new tables c e b w new on reads =
     fun_ext (λ u. fun_ext (λ x. elim (cases_eq u b.0) [
       | inl same ↦
-          let mine : holder_of (read_resv (payload_of tables (after tables c e) (words.Resv b))) x ≡ holder_of (Some w) x = rw (here tables c e (words.Resv b) new on, reads) refl in
+          let mine : holder_of (read_resv (payload_of tables (after tables c e) (words.Resv b))) x ≡ holder_of (Some w) x =
+          rw (here tables c e (words.Resv b) new on, reads) refl in
           let test : (b.0 == b.0) ≡ true = grind (arith, nat_tests) in
-          let back : holder_of (Some w) x ≡ (if b.0 == b.0 then holder_of (Some w) x else holder_of (read_resv (payload_of tables c (words.Resv b))) x) = rw test refl in
+          let back : holder_of (Some w) x ≡ (if b.0 == b.0 then holder_of (Some w) x else holder_of (read_resv (payload_of tables c (words.Resv b))) x) =
+          rw test refl in
           rw same (mine ∙ back)
       | inr other ↦
           rw (ne_eqb u b.0 other) (rw (kept tables c e (words.Resv b) (words.Resv (box u)) new on (λ same. other (box_number u b (cc)))) refl)

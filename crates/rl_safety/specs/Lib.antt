@@ -6,3 +6,6 @@ pub mod Labels
 pub mod Counts
 pub mod World
 pub mod Stepped
+pub mod Reports
+pub mod Readable
+pub mod Rests

@@ -1,10 +1,12 @@
-ghost use Rattle.std.specs.Prelude.{◌≡◌, ℕ, ◌*◌, ◌<◌, ◌≤◌, true, List, length, slice_get, Some};
+ghost use Rattle.std.specs.Prelude.{◌≡◌, ℕ, ◌*◌, ◌<◌, ◌≤◌, ◌⊎◌, true, List, length, slice_get, Some};
 ghost use Rattle.rl_base.specs.declared.layout.NodeKind.{NodeKind};
 ghost use Rattle.rl_model.specs.declared.moves.Move.{Move};
 ghost use Rattle.rl_model.specs.declared.network.NetworkPlan.{NetworkPlan};
+ghost use Rattle.rl_model.specs.declared.report.Fate.TheVariants.{Arrived, Spent};
+ghost use Rattle.rl_model.specs.declared.report.Outcome.{Outcome};
 ghost use Rattle.rl_model.specs.Moves.{IsMoveOf};
 ghost use Rattle.rl_model.specs.Network.{IsNetwork};
-ghost use Rattle.rl_model.specs.Reports.{refused_in, Rests};
+ghost use Rattle.rl_model.specs.Reports.{refused_in, Rests, IsRightReport, IsReportOf};
 ghost use Rattle.rl_model.specs.Safety.{IsSafeRun, world_after};
 ghost use Rattle.rl_protocol.specs.Agreement.{Agrees};
 ghost use Rattle.rl_protocol.specs.Minds.{at_rest};
@@ -17,6 +19,7 @@ ghost use Rattle.rl_runs.specs.Run.{IsRun, state};
 ghost use Rattle.rl_safety.specs.Counts.{events_by, attempts_of};
 ghost use Rattle.rl_safety.specs.Moves.{moves_of};
 ghost use Rattle.rl_safety.specs.Reading.{read};
+ghost use Rattle.rl_safety.specs.Reports.{report_of};
 ghost use Rattle.rl_safety.specs.Stepped.{IsStepped};
 ghost use Rattle.rl_safety.specs.World.{world_of_core};
 ghost use Rattle.rl_tables.specs.declared.table.Tables.{Tables};
@@ -25,6 +28,7 @@ ghost use Rattle.rl_tables.specs.Starts.{layout_of};
 ghost use Rattle.rl_tables.specs.Tables.{AreTablesOf};
 
 use rl_box::box_steps;
+use rl_model::laws::counted_leaves;
 use rl_protocol as protocol;
 use rl_tables::tables_of_networks;
 use rl_track::{machine_steps, track_steps};
@@ -124,4 +128,27 @@ pub fn counted_events()
     steps_of_events();
     protocol::lines_of_tables();
     protocol::counted_steps();
+}
+
+/// The report of every run of events on the tables of a network is right, and is one of the network. Where every train
+/// rests in the end, each has arrived or spent its attempts.
+pub fn right_reports()
+    ensures right { (net : NetworkPlan) (tables : Tables) (tries : ℕ) (events : List Event)
+        → IsNetwork net → AreTablesOf net tables → 1 ≤ tries → tries ≤ 1000 → IsRun tables tries events
+        → IsRightReport net (report_of tables tries events) }
+    ensures of { (net : NetworkPlan) (tables : Tables) (tries : ℕ) (events : List Event)
+        → IsNetwork net → AreTablesOf net tables → 1 ≤ tries → tries ≤ 1000 → IsRun tables tries events
+        → IsReportOf net (report_of tables tries events) }
+    ensures ended { (tables : Tables) (tries : ℕ) (events : List Event) (t : ℕ) (o : Outcome)
+        → AllRest (line_of tables) (read tables tries (state tables tries events))
+        → slice_get (report_of tables tries events).outcomes t ≡ Some o
+        → (o.fate ≡ Arrived) ⊎ (o.fate ≡ Spent) }
+{
+    safe_runs();
+    agreement();
+    counted_refusals();
+    trains_at_rest();
+    counted_leaves();
+    tables_of_networks();
+    protocol::lines_of_tables();
 }

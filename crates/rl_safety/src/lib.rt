@@ -5,7 +5,10 @@
 #![tactic(auto)]
 
 pub mod laws;
+pub mod work;
 
 pub use laws::{
-    agreement, counted_events, counted_refusals, safe_runs, steps_of_events, trains_at_rest,
+    agreement, counted_events, counted_refusals, right_reports, safe_runs, steps_of_events,
+    trains_at_rest,
 };
+pub use work::{boxes_at_work, readable_words, turns_at_rest};

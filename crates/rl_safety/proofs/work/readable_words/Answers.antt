@@ -1,0 +1,25 @@
+use Rattle.rl_safety.proofs.Readable.{runs_readable}
+use Rattle.rl_safety.proofs.work.readable_words.Goals as goal
+
+pub returns : goal.returns
+returns c = λ tables tries events line few run.
+    runs_readable
+    record {
+      steps = record {
+        tables = c.usable_tables.ensures;
+        trains = c.train_steps.ensures;
+        tracks = c.track_steps.ensures;
+        boxes = c.box_steps.ensures;
+        machines = c.machine_steps.ensures;
+      };
+      words = record { reads = c.words.ensures.reads; only = c.words.ensures.only };
+      arms = record { same = c.arms.ensures.same; others = c.arms.ensures.others };
+    }
+    record {
+      resv = c.readings.ensures.resv;
+      lock = c.readings.ensures.lock;
+      mail = c.readings.ensures.mail;
+      run = c.readings.ensures.run;
+      sense = c.readings.ensures.sense;
+    }
+    c.agreement.ensures.runs tables tries events line (c.lines_of_tables.ensures.consistent tables line) few run
