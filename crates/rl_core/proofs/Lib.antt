@@ -5,3 +5,5 @@ pub mod Reached
 pub mod Looking
 pub mod Counting
 pub mod Fates
+pub mod Acting
+pub mod Replaying

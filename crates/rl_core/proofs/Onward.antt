@@ -1,20 +1,17 @@
 -- A run with an event that fits leads on: to the core after the step.
-use Rattle.std.proofs.Common.{◌≡◌, ℕ, zero, suc, ◌+◌, ◌<◌, ◌≤◌, ◌==◌, List, [], ◌∷◌, length, slice_get, slice_set, slice_index_or, Option, Some, None, option_map, option_and_then, refl, sym, ap, ◌∙◌, subst, inl, inr, if◌then◌else◌, true, false, arith}
+use Rattle.std.proofs.Common.{◌≡◌, ℕ, ◌<◌, List, ◌∷◌, length, slice_get, slice_set, slice_index_or, Some, refl, sym, ◌∙◌, inl, inr, arith}
 use Rattle.std.proofs.Math.Path.{fun_ext}
 use Rattle.std.proofs.lemmas.Bool.{cases_eq, ne_eqb}
 use Rattle.std.proofs.lemmas.Bool.Decides.{nat_tests}
-use Rattle.std.proofs.lemmas.List.{length-set, get_or-set_same, get_or-set_other}
+use Rattle.std.proofs.lemmas.List.{get_or-set_same, get_or-set_other}
 use Rattle.rl_base.specs.Layout.{node_count}
-use Rattle.rl_record.specs.declared.event.Event.{Event}
-use Rattle.rl_words.specs.Stamps.{payload_in, stamped}
-use Rattle.rl_tables.specs.declared.table.Tables.{Tables}
+use Rattle.rl_words.specs.Stamps.{payload_in}
 use Rattle.rl_tables.specs.Starts.{layout_of}
-use Rattle.rl_track.specs.declared.machine.MachineMind.{MachineMind}
 use Rattle.rl_runs.specs.declared.mind.Mind.{Mind}
 use Rattle.rl_runs.specs.declared.mind.Mind.TheVariants.{Machine}
 use Rattle.rl_runs.specs.Step.{node_step}
-use Rattle.rl_runs.specs.State.{CoreState, event_of, event_at, next_stamp, after, mind_after, put}
-use Rattle.rl_runs.specs.Run.{Fits, IsRun, state}
+use Rattle.rl_runs.specs.State.{after, mind_after, put}
+use Rattle.rl_runs.specs.Run.{Fits}
 use Rattle.rl_runs.specs.Turn.{Drive}
 use Rattle.rl_core.specs.Cores.{Core, state_of, LeadsTo, HasSizes}
 use Rattle.rl_core.specs.Made.{stamp_of, event_in, made}
@@ -34,14 +31,18 @@ table_put xs n v d within =
     put_other f n v m other = rw (ne_eqb m n other) refl
 
 -- the event of the step fits the state of the core
-fits_state : (core : Core) (n w was payload : ℕ) (mind : Mind) → slice_get core.words w ≡ Some was → node_step core.line n ((state_of core).minds n) w (payload_in was) ≡ Some (payload, mind) → Fits core.line (state_of core) (event_in core n w was payload)
+pub fits_state : (core : Core) (n w was payload : ℕ) (mind : Mind) → slice_get core.words w ≡ Some was
+    → node_step core.line n ((state_of core).minds n) w (payload_in was) ≡ Some (payload, mind) → Fits core.line (state_of core) (event_in core n w was payload)
 fits_state core n w was payload mind word step = rw (word, step) refl
 
-mind_made : (core : Core) (n w was payload : ℕ) (mind : Mind) → node_step core.line n ((state_of core).minds n) w (payload_in was) ≡ Some (payload, mind) → mind_after core.line (state_of core) (event_in core n w was payload) ≡ mind
+mind_made : (core : Core) (n w was payload : ℕ) (mind : Mind) → node_step core.line n ((state_of core).minds n) w (payload_in was) ≡ Some (payload, mind)
+    → mind_after core.line (state_of core) (event_in core n w was payload) ≡ mind
 mind_made core n w was payload mind step = rw step refl
 
 -- the state of the core after the step is the state after its event
-state_made : (core : Core) (n w was payload : ℕ) (mind : Mind) → HasSizes core → n < node_count (layout_of core.line) → node_step core.line n ((state_of core).minds n) w (payload_in was) ≡ Some (payload, mind) → state_of (made core n w was payload mind) ≡ after core.line (state_of core) (event_in core n w was payload)
+state_made : (core : Core) (n w was payload : ℕ) (mind : Mind) → HasSizes core → n < node_count (layout_of core.line)
+    → node_step core.line n ((state_of core).minds n) w (payload_in was) ≡ Some (payload, mind)
+    → state_of (made core n w was payload mind) ≡ after core.line (state_of core) (event_in core n w was payload)
 state_made core n w was payload mind sizes there step =
     let minds : (λ m. slice_index_or (slice_set core.minds n mind) m (Machine record {})) ≡ put (λ m. slice_index_or core.minds m (Machine record {})) n mind =
     table_put core.minds n mind (Machine record {}) (omega (arith, sizes.minds)) in
@@ -50,7 +51,9 @@ state_made core n w was payload mind sizes there step =
     rw (minds, clocks, mind_made core n w was payload mind step) refl
 
 -- the core after the step is reached by the run with the event
-pub leads_on : (core : Core) (drive : Drive) (n w was payload : ℕ) (mind : Mind) → HasSizes core → n < node_count (layout_of core.line) → LeadsTo drive core → slice_get core.words w ≡ Some was → node_step core.line n ((state_of core).minds n) w (payload_in was) ≡ Some (payload, mind) → LeadsTo (record drive { events = event_in core n w was payload ∷ drive.events }) (made core n w was payload mind)
+pub leads_on : (core : Core) (drive : Drive) (n w was payload : ℕ) (mind : Mind) → HasSizes core → n < node_count (layout_of core.line) → LeadsTo drive core
+    → slice_get core.words w ≡ Some was → node_step core.line n ((state_of core).minds n) w (payload_in was) ≡ Some (payload, mind)
+    → LeadsTo (record drive { events = event_in core n w was payload ∷ drive.events }) (made core n w was payload mind)
 leads_on core drive n w was payload mind sizes there leads word step =
     let fits : Fits core.line (state_of core) (event_in core n w was payload) = fits_state core n w was payload mind word step in
     record {

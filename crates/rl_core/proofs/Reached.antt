@@ -1,32 +1,36 @@
 -- What is so of a core that is reached, and that it is still reached after a step and after a scan.
-use Rattle.std.proofs.Common.{◌≡◌, ℕ, suc, ◌+◌, ◌%◌, ◌^◌, ◌<◌, ◌≤◌, ◌==◌, List, [], ◌∷◌, length, slice_get, slice_set, slice_index_or, Option, Some, None, refl, sym, ap, ◌∙◌, subst, inl, inr, if◌then◌else◌, true, false, arith}
-use Rattle.std.proofs.lemmas.Bool.{cases_eq, ne_eqb}
+use Rattle.std.proofs.Common.{◌≡◌, ℕ, ◌^◌, ◌<◌, ◌≤◌, List, ◌∷◌, length, slice_get, slice_index_or, Some, inl, inr, arith}
+use Rattle.std.proofs.lemmas.Bool.{cases_eq}
 use Rattle.std.proofs.lemmas.Bool.Decides.{nat_tests}
 use Rattle.std.proofs.lemmas.Option.{get_or_from_slice_get}
 use Rattle.rl_base.specs.Layout.{node_count}
 use Rattle.rl_record.specs.declared.event.Event.{Event}
-use Rattle.rl_words.specs.Stamps.{payload_in, stamp_in}
+use Rattle.rl_words.specs.Stamps.{payload_in}
 use Rattle.rl_tables.specs.declared.table.Tables.{Tables}
 use Rattle.rl_tables.specs.Kept.{IsLine}
 use Rattle.rl_tables.specs.Starts.{layout_of}
 use Rattle.rl_runs.specs.declared.mind.Mind.{Mind}
 use Rattle.rl_runs.specs.Step.{node_step}
-use Rattle.rl_runs.specs.State.{CoreState, put}
+use Rattle.rl_runs.specs.State.{put}
 use Rattle.rl_runs.specs.Run.{IsRun, state}
 use Rattle.rl_runs.specs.Sound.{IsSound}
-use Rattle.rl_runs.specs.Turn.{Drive, next_place}
-use Rattle.rl_core.specs.Cores.{Core, state_of, LeadsTo, HasSizes, IsReached}
+use Rattle.rl_runs.specs.Turn.{next_place}
+use Rattle.rl_core.specs.Cores.{Core, state_of, IsReached}
 use Rattle.rl_core.specs.Made.{event_in, made, advanced}
 use Rattle.rl_core.proofs.Onward.{leads_on}
 use Rattle.rl_core.proofs.Turned.{leads_advanced, sizes_made, sizes_advanced}
 
-pub reached_sound : ((tables : Tables) (tries : ℕ) (events : List Event) → IsLine tables → tries ≤ 1000 → length events < 2 ^ 32 → IsRun tables tries events → IsSound tables (length events) (state tables tries events)) → (core : Core) → IsReached core → core.events < 2 ^ 32 → IsSound core.line core.events (state_of core)
+pub reached_sound : ((tables : Tables) (tries : ℕ) (events : List Event) → IsLine tables → tries ≤ 1000 → length events < 2 ^ 32 → IsRun tables tries events
+    → IsSound tables (length events) (state tables tries events)) → (core : Core) → IsReached core → core.events < 2 ^ 32
+    → IsSound core.line core.events (state_of core)
 reached_sound law core reached few =
     let count : core.events ≡ length reached.drive.events = reached.leads.events in
     let sound = law core.line core.tries reached.drive.events reached.line reached.few_tries (omega arith) reached.leads.run in
     rw (count, ← reached.leads.state) sound
 
-pub reached_made : (core : Core) (n w was payload : ℕ) (mind : Mind) → IsReached core → n < node_count (layout_of core.line) → slice_get core.words w ≡ Some was → node_step core.line n ((state_of core).minds n) w (payload_in was) ≡ Some (payload, mind) → IsReached (made core n w was payload mind)
+pub reached_made : (core : Core) (n w was payload : ℕ) (mind : Mind) → IsReached core → n < node_count (layout_of core.line)
+    → slice_get core.words w ≡ Some was → node_step core.line n ((state_of core).minds n) w (payload_in was) ≡ Some (payload, mind)
+    → IsReached (made core n w was payload mind)
 reached_made core n w was payload mind reached there word step =
     record {
       drive = record reached.drive { events = event_in core n w was payload ∷ reached.drive.events };
@@ -64,7 +68,8 @@ reached_advanced core n reached there =
       drive = record reached.drive { scans = put reached.drive.scans n (next_place core.line (reached.drive.scans n)) };
       leads = leads_advanced core reached.drive n there reached.leads;
       sizes = sizes_advanced core n reached.sizes;
-      places = λ m within. put_within reached.drive.scans n (next_place core.line (reached.drive.scans n)) (length core.line.trains) (next_within core.line (reached.drive.scans n)) m (reached.places m within);
+      places = λ m within. put_within reached.drive.scans n (next_place core.line (reached.drive.scans n)) (length core.line.trains)
+          (next_within core.line (reached.drive.scans n)) m (reached.places m within);
       line = reached.line;
       some_tries = reached.some_tries;
       few_tries = reached.few_tries;

@@ -1,26 +1,46 @@
 -- A core at its start is reached by the empty run.
-use Rattle.std.proofs.Common.{◌≡◌, ℕ, zero, suc, ◌+◌, ◌*◌, ◌<◌, ◌≤◌, ◌==◌, nat_lt, List, [], ◌∷◌, length, slice_get, slice_index_or, replicate, Option, Some, None, refl, sym, ap, ◌∙◌, subst, inl, inr, if◌then◌else◌, true, false, arith}
+use Rattle.std.proofs.Common.{
+  ◌≡◌,
+  ℕ,
+  zero,
+  suc,
+  ◌<◌,
+  ◌≤◌,
+  List,
+  [],
+  ◌∷◌,
+  length,
+  slice_get,
+  slice_index_or,
+  replicate,
+  Some,
+  None,
+  refl,
+  sym,
+  ap,
+  ◌∙◌,
+  inl,
+  inr,
+  arith,
+}
 use Rattle.std.proofs.Math.Path.{fun_ext}
-use Rattle.std.proofs.lemmas.Grind.{common_steps}
 use Rattle.std.proofs.lemmas.Bool.{cases_lt}
 use Rattle.std.proofs.lemmas.Bool.Decides.{nat_tests}
 use Rattle.rl_base.specs.declared.layout.Layout.{Layout}
 use Rattle.rl_base.specs.Layout.{node_count, word_count}
 use Rattle.rl_tables.specs.declared.table.Tables.{Tables}
 use Rattle.rl_tables.specs.Starts.{layout_of}
-use Rattle.rl_track.specs.declared.machine.MachineMind.{MachineMind}
 use Rattle.rl_runs.specs.declared.mind.Mind.{Mind}
 use Rattle.rl_runs.specs.declared.mind.Mind.TheVariants.{Machine}
 use Rattle.rl_runs.specs.Numbers.{node_at}
-use Rattle.rl_runs.specs.State.{CoreState, start, start_mind, start_words, start_mind_of}
-use Rattle.rl_runs.specs.Run.{state}
+use Rattle.rl_runs.specs.State.{start_mind, start_words}
 use Rattle.rl_runs.specs.Turn.{start_drive}
 use Rattle.rl_runs.proofs.Starts.{start_words-length}
-use Rattle.rl_core.specs.Cores.{Core, state_of, LeadsTo, HasSizes}
+use Rattle.rl_core.specs.Cores.{Core, LeadsTo, HasSizes}
 use Rattle.rl_core.specs.Starts.{AreStartMinds}
 
 -- a node that isn't there has the mind of a machine
-past : (lay : Layout) (n : ℕ) → node_count lay ≤ n → node_at lay n ≡ None
+pub past : (lay : Layout) (n : ℕ) → node_count lay ≤ n → node_at lay n ≡ None
 past lay n over = grind (arith, nat_tests)
 
 past_mind : (tables : Tables) (tries n : ℕ) → node_count (layout_of tables) ≤ n → start_mind tables tries n ≡ Machine record {}
@@ -45,7 +65,8 @@ over_minds [] n over = refl
 over_minds (m ∷ ms) zero over = absurd (omega arith)
 over_minds (m ∷ ms) (suc n) over = over_minds ms n (omega arith)
 
-same_mind : (tables : Tables) (tries : ℕ) (minds : List Mind) (n : ℕ) → AreStartMinds tables tries (node_count (layout_of tables)) minds → slice_index_or minds n (Machine record {}) ≡ start_mind tables tries n
+same_mind : (tables : Tables) (tries : ℕ) (minds : List Mind) (n : ℕ) → AreStartMinds tables tries (node_count (layout_of tables)) minds
+    → slice_index_or minds n (Machine record {}) ≡ start_mind tables tries n
 same_mind tables tries minds n are =
     elim (cases_lt n (node_count (layout_of tables))) [
       | inl within ↦ are.each n within
@@ -65,11 +86,13 @@ core_at tables tries minds =
       events = 0;
     }
 
-pub start_leads : (tables : Tables) (tries : ℕ) (minds : List Mind) → AreStartMinds tables tries (node_count (layout_of tables)) minds → LeadsTo start_drive (core_at tables tries minds)
+pub start_leads : (tables : Tables) (tries : ℕ) (minds : List Mind) → AreStartMinds tables tries (node_count (layout_of tables)) minds
+    → LeadsTo start_drive (core_at tables tries minds)
 start_leads tables tries minds are =
     let as_start : (λ n. slice_index_or minds n (Machine record {})) ≡ start_mind tables tries = fun_ext (λ n. same_mind tables tries minds n are) in
     let no_clock : ℕ → ℕ = λ n. 0 in
-    let no_clocks : (λ n. slice_index_or {A = ℕ} (replicate {A = ℕ} (node_count (layout_of tables)) 0) n 0) ≡ no_clock = fun_ext (λ n. zeros (node_count (layout_of tables)) n) in
+    let no_clocks : (λ n. slice_index_or {A = ℕ} (replicate {A = ℕ} (node_count (layout_of tables)) 0) n 0) ≡ no_clock = fun_ext
+    (λ n. zeros (node_count (layout_of tables)) n) in
     record {
       run = tt;
       state = rw (as_start, no_clocks) refl;
@@ -77,7 +100,8 @@ start_leads tables tries minds are =
       events = refl;
     }
 
-pub start_sizes : (tables : Tables) (tries : ℕ) (minds : List Mind) → AreStartMinds tables tries (node_count (layout_of tables)) minds → HasSizes (core_at tables tries minds)
+pub start_sizes : (tables : Tables) (tries : ℕ) (minds : List Mind) → AreStartMinds tables tries (node_count (layout_of tables)) minds
+    → HasSizes (core_at tables tries minds)
 start_sizes tables tries minds are =
     record {
       words = start_words-length tables (word_count (layout_of tables));

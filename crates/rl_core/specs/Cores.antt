@@ -1,10 +1,9 @@
 -- A core as code keeps it, in tables, and the state and the run that these tables stand for.
-use Rattle.std.specs.Prelude.{◌≡◌, ℕ, ◌<◌, ◌≤◌, List, length, slice_get, slice_index_or, Option, Some}
+use Rattle.std.specs.Prelude.{◌≡◌, ℕ, ◌<◌, ◌≤◌, List, length, slice_get, slice_index_or, Some}
 use Rattle.rl_base.specs.Layout.{word_count, node_count}
 use Rattle.rl_tables.specs.declared.table.Tables.{Tables}
 use Rattle.rl_tables.specs.Kept.{IsLine}
 use Rattle.rl_tables.specs.Starts.{layout_of}
-use Rattle.rl_track.specs.declared.machine.MachineMind.{MachineMind}
 use Rattle.rl_runs.specs.declared.mind.Mind.{Mind}
 use Rattle.rl_runs.specs.declared.mind.Mind.TheVariants.{Machine}
 use Rattle.rl_runs.specs.State.{CoreState}

@@ -3,3 +3,5 @@ pub mod Made
 pub mod Starts
 pub mod Looks
 pub mod Reports
+pub mod Redoing
+pub mod Replays

@@ -1,16 +1,36 @@
 -- What a node sees where it looks at its target.
-use Rattle.std.specs.Prelude.{◌≡◌, ℕ, slice_get, Option, Some, None, if◌then◌else◌}
+use Rattle.std.specs.Prelude.{◌≡◌, ℕ, slice_get, Some, None, if◌then◌else◌}
+use Rattle.rl_base.specs.declared.layout.NodeKind.TheVariants as nodes
 use Rattle.rl_words.specs.Stamps.{payload_in}
 use Rattle.rl_tables.specs.declared.table.Tables.{Tables}
-use Rattle.rl_runs.specs.declared.mind.Mind.{Mind}
+use Rattle.rl_tables.specs.Starts.{layout_of}
+use Rattle.rl_runs.specs.declared.mind.Mind.TheVariants as minds
+use Rattle.rl_runs.specs.Numbers.{node_at}
 use Rattle.rl_record.specs.declared.event.Turn.{Turn}
 use Rattle.rl_record.specs.declared.event.Turn.TheVariants as turns
 use Rattle.rl_runs.specs.Step.{node_step, target_of, is_ready}
 use Rattle.rl_runs.specs.State.{CoreState}
 use Rattle.rl_core.specs.Cores.{Core, state_of}
 use Rattle.rl_core.specs.Made.{event_in, made, advanced}
+use Rattle.rl_core.specs.declared.look.Who.{Who}
+use Rattle.rl_core.specs.declared.look.Who.TheVariants as whos
 use Rattle.rl_core.specs.declared.look.Look.{Look}
 use Rattle.rl_core.specs.declared.look.Look.TheVariants.{Rests, Idles, Steps}
+
+-- node n is this node of the line, and this is its mind
+abbrev pub IsWho : Tables → CoreState → (n : ℕ) → Who → Type 0
+IsWho tables c n (whos.Train t m) =
+    (node_at (layout_of tables) n ≡ Some (nodes.Train t))
+    × (c.minds n ≡ minds.Train m.now)
+IsWho tables c n (whos.Track t m) =
+    (node_at (layout_of tables) n ≡ Some (nodes.Track t))
+    × (c.minds n ≡ minds.Track m.now)
+IsWho tables c n (whos.Box b m) =
+    (node_at (layout_of tables) n ≡ Some (nodes.Box b))
+    × (c.minds n ≡ minds.Box m.now)
+IsWho tables c n (whos.Machine b m) =
+    (node_at (layout_of tables) n ≡ Some (nodes.Machine b))
+    × (c.minds n ≡ minds.Machine m.now)
 
 -- node n looks at word w, whose whole value is this
 pub record Sees (tables : Tables) (c : CoreState) (n scan w was : ℕ) : Type 0 where

@@ -1,7 +1,6 @@
 -- The minds of a core at the start, node by node.
 use Rattle.std.specs.Prelude.{◌≡◌, ℕ, ◌<◌, List, length, slice_index_or}
 use Rattle.rl_tables.specs.declared.table.Tables.{Tables}
-use Rattle.rl_track.specs.declared.machine.MachineMind.{MachineMind}
 use Rattle.rl_runs.specs.declared.mind.Mind.{Mind}
 use Rattle.rl_runs.specs.declared.mind.Mind.TheVariants.{Machine}
 use Rattle.rl_runs.specs.State.{start_mind}

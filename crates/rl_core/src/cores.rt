@@ -38,9 +38,25 @@ impl<'a> Model for Core<'a> {
 
     ghost Value = { Core };
 
-    ghost view = { λ c. record { line = c.line.now; tries = c.tries; words = c.words.items; minds = c.minds.items; clocks = c.clocks.items; scans = c.scans.items; events = c.events } };
+    ghost view = { λ c. record {
+      line = c.line.now;
+      tries = c.tries;
+      words = c.words.items;
+      minds = c.minds.items;
+      clocks = c.clocks.items;
+      scans = c.scans.items;
+      events = c.events;
+    } };
 
-    ghost invariant = { λ c. IsReached (record { line = c.line.now; tries = c.tries; words = c.words.items; minds = c.minds.items; clocks = c.clocks.items; scans = c.scans.items; events = c.events }) };
+    ghost invariant = { λ c. IsReached (record {
+      line = c.line.now;
+      tries = c.tries;
+      words = c.words.items;
+      minds = c.minds.items;
+      clocks = c.clocks.items;
+      scans = c.scans.items;
+      events = c.events;
+    }) };
 }
 
 impl<'a> Core<'a> {
@@ -165,6 +181,24 @@ impl<'a> Core<'a> {
         self.events += 1;
     }
 
+    /// The event that the node makes by a step to the payload on a word that was this.
+    pub(crate) fn event(&self, node: NodeNo, w: WordNo, was: u64, payload: u32) -> Event
+        requires there { node.0 < node_count (layout_of self.now.line) }
+        requires few { self.now.events < 4294967295 }
+        requires word { slice_get self.now.words w.0 ≡ Some was }
+        ensures { result ≡ event_in self.now node.0 w.0 was payload }
+    {
+        self.sound();
+        let stamp = self.next_stamp(node, was);
+        Event {
+            node,
+            stamp,
+            word: w,
+            was,
+            now: word_of(stamp, payload),
+        }
+    }
+
     /// Makes the step of the node on the word: the word, the mind and the clock of the node are new.
     pub(crate) fn step(
         &mut self,
@@ -177,22 +211,15 @@ impl<'a> Core<'a> {
         requires there { node.0 < node_count (layout_of self.old.line) }
         requires few { self.old.events < 4294967295 }
         requires word { slice_get self.old.words w.0 ≡ Some was }
-        requires step { node_step self.old.line node.0 ((state_of self.old).minds node.0) w.0 (payload_in was) ≡ Some (payload, mind) }
+        requires step { node_step self.old.line node.0 ((state_of self.old).minds node.0) w.0 (payload_in was)
+            ≡ Some (payload, mind) }
         ensures core { self.new ≡ made self.old node.0 w.0 was payload mind }
         ensures event { result ≡ event_in self.old node.0 w.0 was payload }
     {
-        self.sound();
         self.reached();
-        let stamp = self.next_stamp(node, was);
-        let now = word_of(stamp, payload);
-        self.put(node, w, now, stamp, mind);
-        Event {
-            node,
-            stamp,
-            word: w,
-            was,
-            now,
-        }
+        let event = self.event(node, w, was, payload);
+        self.put(node, w, event.now, event.stamp, mind);
+        event
     }
 
     /// The place after the one at which the box of the node scans.
@@ -202,7 +229,12 @@ impl<'a> Core<'a> {
         requires few { length self.now.line.trains ≤ 32 }
         ensures { result ≡ next_place self.now.line (slice_index_or self.now.scans node.0 0) }
     {
-        (self.scans[node.0 as usize] + 1) % (self.line.layout().trains + 1)
+        let next = self.scans[node.0 as usize] + 1;
+        if next > self.line.layout().trains {
+            0
+        } else {
+            next
+        }
     }
 
     /// Writes a scan place.

@@ -8,10 +8,13 @@ pub mod cores;
 mod look;
 pub mod moves;
 pub mod reports;
+mod redoing;
+pub mod replays;
 mod starts;
 mod turns;
 
 pub use cores::Core;
 pub use moves::move_of;
 pub use reports::report_of;
+pub use replays::{ReplayFault, replay};
 pub use rl_runs::Mind;

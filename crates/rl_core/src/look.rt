@@ -1,5 +1,17 @@
-use rl_base::WordNo;
+use rl_base::{BoxId, TrainId, WordNo};
+use rl_box::BoxMind;
 use rl_runs::Mind;
+use rl_track::{MachineMind, TrackMind};
+use rl_train::TrainMind;
+
+/// Who a node is, with its mind.
+#[derive(Clone, Copy, Debug)]
+pub enum Who<'a> {
+    Train(TrainId, &'a TrainMind),
+    Track(TrainId, &'a TrackMind),
+    Box(BoxId, &'a BoxMind),
+    Machine(BoxId, &'a MachineMind),
+}
 
 /// What a node sees where it looks at its target.
 #[derive(Clone, Copy, Debug, PartialEq, Eq)]

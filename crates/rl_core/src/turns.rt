@@ -3,14 +3,14 @@ ghost use Rattle.rl_base.specs.declared.layout.NodeKind.TheVariants as nodes;
 ghost use Rattle.rl_base.specs.Layout.{node_count, node_number, word_count};
 ghost use Rattle.rl_tables.specs.Starts.{layout_of};
 ghost use Rattle.rl_runs.specs.Numbers.{node_at};
-ghost use Rattle.rl_runs.specs.Step.{is_ready};
+ghost use Rattle.rl_runs.specs.Step.{has_nothing};
 ghost use Rattle.rl_runs.specs.Turn.{Drive, turn_of, answer_of};
 ghost use Rattle.rl_core.specs.Cores.{state_of, LeadsTo};
-ghost use Rattle.rl_core.specs.Looks.{IsLook, after_look, answer_to};
+ghost use Rattle.rl_core.specs.Looks.{IsWho, IsLook, after_look, answer_to};
 ghost use Rattle.rl_core.specs.Made.{advanced};
 
 use crate::cores::Core;
-use crate::look::Look;
+use crate::look::{Look, Who};
 use rl_base::{BoxId, NodeKind, NodeNo, TrainId};
 use rl_box::{BoxMind, Work};
 use rl_record::Turn;
@@ -19,18 +19,30 @@ use rl_track::{MachineMind, TrackMind};
 use rl_train::{TrainMind, usable_tables};
 use rl_words::payload_of;
 
+/// Whether the box has nothing in hand.
+fn is_ready(mind: &BoxMind) -> bool
+    ensures { result ≡ has_nothing mind.now.work }
+{
+    matches!(mind.work, Work::Ready)
+}
+
 impl<'a> Core<'a> {
-    /// The mind of the node of a train.
-    pub(crate) fn train_mind(&self, node: NodeNo, t: TrainId) -> &TrainMind
-        requires at { node_at (layout_of self.now.line) node.0 ≡ Some (nodes.Train t) }
+    /// Who the node is, with its mind: the mind says of which kind it is, and the layout at which number.
+    pub(crate) fn who(&self, node: NodeNo) -> Who<'_>
         requires there { node.0 < node_count (layout_of self.now.line) }
         requires few { self.now.events < 2 ^ 32 }
-        ensures { (state_of self.now).minds node.0 ≡ Mind.Train result.now }
+        ensures { IsWho self.now.line (state_of self.now) node.0 result }
     {
         self.sound();
+        numbered();
+        let lay = self.line().layout();
         match self.mind_at(node) {
-            Mind::Train(mind) => mind,
-            Mind::Track(_) | Mind::Box(_) | Mind::Machine(_) => unreachable!(),
+            Mind::Train(mind) => Who::Train(TrainId(node.0), mind),
+            Mind::Track(mind) => Who::Track(TrainId(node.0 - lay.trains), mind),
+            Mind::Box(mind) => Who::Box(BoxId(node.0 - 2 * lay.trains), mind),
+            Mind::Machine(mind) => {
+                Who::Machine(BoxId(node.0 - 2 * lay.trains - lay.boxes), mind)
+            }
         }
     }
 
@@ -38,53 +50,14 @@ impl<'a> Core<'a> {
     pub fn train(&self, t: TrainId) -> TrainMind
         requires there { t.0 < length self.now.line.trains }
         requires few { self.now.events < 2 ^ 32 }
-        ensures { (state_of self.now).minds (node_number (layout_of self.now.line) (nodes.Train t)) ≡ Mind.Train result }
+        ensures { (state_of self.now).minds (node_number (layout_of self.now.line) (nodes.Train t))
+            ≡ Mind.Train result }
     {
         self.sound();
         numbered();
-        let node = self.line().layout().node(NodeKind::Train(t));
-        *self.train_mind(node, t)
-    }
-
-    /// The mind of the node of a track.
-    fn track_mind(&self, node: NodeNo, t: TrainId) -> &TrackMind
-        requires at { node_at (layout_of self.now.line) node.0 ≡ Some (nodes.Track t) }
-        requires there { node.0 < node_count (layout_of self.now.line) }
-        requires few { self.now.events < 2 ^ 32 }
-        ensures { (state_of self.now).minds node.0 ≡ Mind.Track result.now }
-    {
-        self.sound();
-        match self.mind_at(node) {
-            Mind::Track(mind) => mind,
-            Mind::Train(_) | Mind::Box(_) | Mind::Machine(_) => unreachable!(),
-        }
-    }
-
-    /// The mind of the node of a box.
-    fn box_mind(&self, node: NodeNo, b: BoxId) -> &BoxMind
-        requires at { node_at (layout_of self.now.line) node.0 ≡ Some (nodes.Box b) }
-        requires there { node.0 < node_count (layout_of self.now.line) }
-        requires few { self.now.events < 2 ^ 32 }
-        ensures { (state_of self.now).minds node.0 ≡ Mind.Box result.now }
-    {
-        self.sound();
-        match self.mind_at(node) {
-            Mind::Box(mind) => mind,
-            Mind::Train(_) | Mind::Track(_) | Mind::Machine(_) => unreachable!(),
-        }
-    }
-
-    /// The mind of the node of a point machine.
-    fn machine_mind(&self, node: NodeNo, b: BoxId) -> &MachineMind
-        requires at { node_at (layout_of self.now.line) node.0 ≡ Some (nodes.Machine b) }
-        requires there { node.0 < node_count (layout_of self.now.line) }
-        requires few { self.now.events < 2 ^ 32 }
-        ensures { (state_of self.now).minds node.0 ≡ Mind.Machine result.now }
-    {
-        self.sound();
-        match self.mind_at(node) {
-            Mind::Machine(mind) => mind,
-            Mind::Train(_) | Mind::Track(_) | Mind::Box(_) => unreachable!(),
+        match self.who(self.line().layout().node(NodeKind::Train(t))) {
+            Who::Train(_, mind) => *mind,
+            Who::Track(_, _) | Who::Box(_, _) | Who::Machine(_, _) => unreachable!(),
         }
     }
 
@@ -176,21 +149,6 @@ impl<'a> Core<'a> {
         self.scan_at(node)
     }
 
-    /// What the node sees at its target.
-    fn look(&self, node: NodeNo) -> Look
-        requires there { node.0 < node_count (layout_of self.now.line) }
-        requires few { self.now.events < 2 ^ 32 }
-        ensures { IsLook self.now.line (state_of self.now) node.0 (slice_index_or self.now.scans node.0 0) result }
-    {
-        numbered();
-        match self.line().layout().node_kind(node) {
-            NodeKind::Train(t) => self.look_train(node, t, self.train_mind(node, t)),
-            NodeKind::Track(t) => self.look_track(node, t, self.track_mind(node, t)),
-            NodeKind::Box(b) => self.look_box(node, b, self.box_mind(node, b), self.scan(node)),
-            NodeKind::Machine(b) => self.look_machine(node, b, self.machine_mind(node, b)),
-        }
-    }
-
     /// Changes what the step of the look changes, and says what the turn came to.
     fn make(&mut self, node: NodeNo, look: Look) -> Turn
         requires there { node.0 < node_count (layout_of self.old.line) }
@@ -205,17 +163,6 @@ impl<'a> Core<'a> {
             Look::Steps(w, was, payload, mind) => {
                 Turn::Moved(self.step(node, w, was, payload, mind))
             }
-        }
-    }
-
-    /// Whether the node is a box that has nothing in hand.
-    fn is_ready(&self, node: NodeNo) -> bool
-        requires { node.0 < length self.now.minds }
-        ensures { result ≡ is_ready ((state_of self.now).minds node.0) }
-    {
-        match self.mind_at(node) {
-            Mind::Box(mind) => matches!(mind.work, Work::Ready),
-            Mind::Train(_) | Mind::Track(_) | Mind::Machine(_) => false,
         }
     }
 
@@ -237,16 +184,33 @@ impl<'a> Core<'a> {
     pub fn turn(&mut self, node: NodeNo) -> Turn
         requires there { node.0 < node_count (layout_of self.old.line) }
         requires few { self.old.events < 4294967295 }
-        ensures turned { (d : Drive) → LeadsTo d self.old → LeadsTo (turn_of self.old.line self.old.tries d node.0) self.new }
+        ensures turned { (d : Drive) → LeadsTo d self.old
+            → LeadsTo (turn_of self.old.line self.old.tries d node.0) self.new }
         ensures answer { (d : Drive) → LeadsTo d self.old → result ≡ answer_of self.old.line self.old.tries d node.0 }
         ensures line { self.new.line ≡ self.old.line }
         ensures tries { self.new.tries ≡ self.old.tries }
     {
         self.reached();
-        let look = self.look(node);
-        let ready = self.is_ready(node);
-        let answer = self.make(node, look);
-        self.go_on(node, ready);
-        answer
+        match self.who(node) {
+            Who::Train(t, mind) => {
+                let look = self.look_train(node, t, mind);
+                self.make(node, look)
+            }
+            Who::Track(t, mind) => {
+                let look = self.look_track(node, t, mind);
+                self.make(node, look)
+            }
+            Who::Box(b, mind) => {
+                let ready = is_ready(mind);
+                let look = self.look_box(node, b, mind, self.scan(node));
+                let answer = self.make(node, look);
+                self.go_on(node, ready);
+                answer
+            }
+            Who::Machine(b, mind) => {
+                let look = self.look_machine(node, b, mind);
+                self.make(node, look)
+            }
+        }
     }
 }

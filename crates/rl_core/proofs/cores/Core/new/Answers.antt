@@ -1,7 +1,6 @@
-use Rattle.std.proofs.Common.{◌≡◌, ◌≤◌, refl, arith}
+use Rattle.std.proofs.Common.{arith}
 use Rattle.rl_runs.specs.Turn.{start_drive}
-use Rattle.rl_core.proofs.Started.{core_at, start_leads, start_sizes}
-use Rattle.rl_core.specs.Cores.{Core, LeadsTo, HasSizes}
+use Rattle.rl_core.proofs.Started.{start_leads, start_sizes}
 use Rattle.rl_core.proofs.cores.Core.new.Goals as goal
 
 pub invariant_of-result : goal.invariant_of-result

@@ -1,4 +1,4 @@
-use Rattle.std.proofs.Common.{◌≡◌, ◌≤◌, slice_index_or, sym, subst, rules, ◌∙◌}
+use Rattle.std.proofs.Common.{sym}
 use Rattle.std.proofs.lemmas.Option.{get_or_from_slice_get}
 use Rattle.rl_core.proofs.Reached.{place_within}
 use Rattle.rl_core.proofs.cores.Core.scan.Goals as goal
