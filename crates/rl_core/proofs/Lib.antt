@@ -5,5 +5,6 @@ pub mod Reached
 pub mod Looking
 pub mod Counting
 pub mod Fates
+pub mod CoreWorlds
 pub mod Acting
 pub mod Replaying

@@ -12,6 +12,7 @@ mod redoing;
 pub mod replays;
 mod starts;
 mod turns;
+mod worlds;
 
 pub use cores::Core;
 pub use moves::move_of;

@@ -10,3 +10,4 @@ pub mod Travels
 pub mod Holders
 pub mod Meetings
 pub mod Rested
+pub mod PartWorlds

@@ -10,12 +10,14 @@ mod changes;
 mod conditions;
 mod first_states;
 mod guards;
+mod parts;
 mod reservations;
 mod rests;
 mod safety;
 mod states;
 mod world;
 
+pub use parts::{BoxStates, Spot, Spots};
 pub use rl_model::{Move, Moves, Points};
 pub use states::{BoxState, PathLock};
 pub use world::{Guard, World};

@@ -3,10 +3,12 @@ ghost use Rattle.rl_model.specs.declared.network.NetworkPlan.{NetworkPlan};
 ghost use Rattle.rl_model.specs.Safety.{IsKept};
 ghost use Rattle.rl_model.specs.World.{start};
 ghost use Rattle.rl_model.specs.Moves.{guards, AllHold, FirstFails, after};
+ghost use Rattle.rl_domain.specs.Parts.{world_of_parts, AreParts};
 ghost use Rattle.rl_domain.specs.Rows.{world_of, Fits};
 ghost use Rattle.rl_model.specs.Moves.{IsMoveOf};
 
 use crate::first_states::{first_standings, first_states};
+use crate::parts::{BoxStates, Spots, standings_of, states_of};
 use crate::states::{BoxState, Standing};
 use rl_base::{BoxId, NoMemory, TrainId};
 use rl_model::Move;
@@ -48,6 +50,25 @@ impl World {
         let _trains = net.trains();
         let trains = first_standings(alloc, net)?;
         let boxes = first_states(alloc, net)?;
+        Ok(World { trains, boxes })
+    }
+
+    /// The world of its parts: where each train is, and the state of each box, in the order of their numbers.
+    pub fn of(
+        alloc: Global,
+        net: &Network,
+        spots: &Spots,
+        boxes: &BoxStates,
+    ) -> Result<World, NoMemory>
+        requires { AreParts net.now spots.now boxes.now }
+        ensures world { IfOk result (λ w. world_of net.now w ≡ world_of_parts net.now spots.now boxes.now) }
+        ensures fits { IfOk result (Fits net.now) }
+        ensures kept { IfOk result (λ w. IsKept net.now (world_of net.now w)) }
+    {
+        // What acceptance gave, for the proof.
+        let _trains = net.trains();
+        let trains = standings_of(alloc, net, spots, boxes)?;
+        let boxes = states_of(alloc, boxes)?;
         Ok(World { trains, boxes })
     }
 

@@ -12,3 +12,5 @@ pub mod Outcomes
 pub mod Readable
 pub mod AtWork
 pub mod Rests
+pub mod Ranges
+pub mod KeptWorlds

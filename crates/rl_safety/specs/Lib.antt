@@ -9,3 +9,4 @@ pub mod Stepped
 pub mod Reports
 pub mod Readable
 pub mod Rests
+pub mod Ranges

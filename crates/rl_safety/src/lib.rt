@@ -6,9 +6,11 @@
 
 pub mod laws;
 pub mod work;
+pub mod worlds;
 
 pub use laws::{
     agreement, counted_events, counted_refusals, right_reports, safe_runs, steps_of_events,
     trains_at_rest,
 };
 pub use work::{boxes_at_work, readable_words, turns_at_rest};
+pub use worlds::worlds_of_runs;
