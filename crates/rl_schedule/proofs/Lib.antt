@@ -1,0 +1,9 @@
+mod Driving
+mod Pieces
+mod WordsOf
+mod Named
+mod Reporting
+mod Read
+mod OrderWords
+mod Items
+mod Meanings

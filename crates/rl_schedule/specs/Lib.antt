@@ -1,0 +1,8 @@
+pub mod Turns
+pub mod Kept
+pub mod Driven
+pub mod Orders
+pub mod Given
+pub mod Readings
+pub mod Refusals
+pub mod Meaning
