@@ -1,0 +1,33 @@
+-- What the rule uses of the protocol: runs are sound, a step is its owner's, and a value has one owner.
+use Rattle.std.proofs.Common.{◌≡◌, ℕ, ◌^◌, ◌<◌, ◌≤◌, List, length, Some}
+use Rattle.rl_base.specs.declared.layout.Layout.{Layout}
+use Rattle.rl_base.specs.declared.layout.NodeKind.{NodeKind}
+use Rattle.rl_words.specs.Owner.{Owns}
+use Rattle.rl_record.specs.declared.event.Event.{Event}
+use Rattle.rl_record.specs.Merge.{history, IsMerge}
+use Rattle.rl_tables.specs.declared.table.Tables.{Tables}
+use Rattle.rl_tables.specs.Kept.{IsLine}
+use Rattle.rl_tables.specs.Starts.{layout_of}
+use Rattle.rl_runs.specs.declared.mind.Mind.{Mind}
+use Rattle.rl_runs.specs.Numbers.{node_at}
+use Rattle.rl_runs.specs.Run.{IsRun, state}
+use Rattle.rl_runs.specs.Sound.{IsMindOf, IsSound}
+use Rattle.rl_runs.specs.Step.{node_step}
+
+abbrev pub RunsAreSound : Type 0
+RunsAreSound = (tables : Tables) (tries : ℕ) (events : List Event) → IsLine tables → tries ≤ 1000 → length events < 2 ^ 32 → IsRun tables tries events → IsSound tables (length events) (state tables tries events)
+
+abbrev pub StepsAreOwners : Type 0
+StepsAreOwners = (tables : Tables) (n w payload new : ℕ) (mind after : Mind) → IsLine tables → ((node : NodeKind) → node_at (layout_of tables) n ≡ Some node → IsMindOf tables node mind) → node_step tables n mind w payload ≡ Some (new, after) → Owns (layout_of tables) w payload n × (new < 2 ^ 32)
+
+abbrev pub OwnersAreOne : Type 0
+OwnersAreOne = (lay : Layout) (w payload m n : ℕ) → Owns lay w payload m → Owns lay w payload n → m ≡ n
+
+pub record Laws : Type 0 where
+  pub runs : RunsAreSound
+  pub steps : StepsAreOwners
+  pub owners : OwnersAreOne
+
+-- the merge of the histories of a run is a run to the same state
+abbrev pub MergesAreRuns : Type 0
+MergesAreRuns = (tables : Tables) (tries : ℕ) (log merged : List Event) → IsLine tables → tries ≤ 1000 → length log < 2 ^ 32 → IsRun tables tries log → IsMerge (λ n. history n log) merged → IsRun tables tries merged × (state tables tries merged ≡ state tables tries log)

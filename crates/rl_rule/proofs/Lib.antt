@@ -1,0 +1,15 @@
+pub mod Lists
+pub mod Histories
+pub mod Known
+pub mod Tellings
+pub mod Others
+pub mod LoadKeeps
+pub mod StepKeeps
+pub mod SeatKeeps
+pub mod Walks
+pub mod Closings
+pub mod Crossing
+pub mod NodeChains
+pub mod WordChains
+pub mod Alone
+pub mod RuleHolds

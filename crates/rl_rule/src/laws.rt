@@ -1,0 +1,36 @@
+ghost use Rattle.std.specs.Prelude.{ℕ};
+ghost use Rattle.rl_base.specs.declared.ids.BoxId.{BoxId};
+ghost use Rattle.rl_base.specs.declared.layout.NodeKind.TheVariants as nodes;
+ghost use Rattle.rl_base.specs.declared.layout.WordKind.TheVariants as words;
+ghost use Rattle.rl_base.specs.Layout.{HasWord, word_number, node_number};
+ghost use Rattle.rl_tables.specs.Starts.{layout_of};
+ghost use Rattle.rl_rule.specs.Loads.{IsAlone};
+ghost use Rattle.atomic_table.specs.Table.{State};
+ghost use Rattle.rl_tables.specs.declared.table.Tables.{Tables};
+ghost use Rattle.rl_rule.specs.declared.views.View.{View};
+ghost use Rattle.rl_rule.specs.Ruled.{IsRuled};
+ghost use Rattle.rl_rule.specs.Rule.{Rule};
+
+use rl_base::numberings;
+use rl_runs::{sound_runs, steps_of_owners};
+use rl_words::one_owner;
+
+/// Where all that the threads did is one run, the rule of the rails holds: places, histories, chains, fresh loads and
+/// bounds. The table keeps the first between any two atomic steps, so the second holds between any two as well.
+pub fn rule_of_rails()
+    ensures { (tables : Tables) (tries : ℕ) (s : State (Unit {0}) View) → IsRuled tables tries s
+        → Rule tables tries s.words s.views }
+{
+    // What the rule uses of the protocol, for the proof.
+    sound_runs();
+    steps_of_owners();
+    one_owner();
+}
+
+/// Nobody but the box may ever change its reservations, so a load of them gives what the box wrote last.
+pub fn alone_with_reservations()
+    ensures { (tables : Tables) (b : BoxId) → HasWord (layout_of tables) (words.Resv b)
+        → IsAlone tables (word_number (layout_of tables) (words.Resv b)) (node_number (layout_of tables) (nodes.Box b)) }
+{
+    numberings();
+}
