@@ -1,12 +1,11 @@
 -- The ends of all segments in a table, one arm more.
-use Rattle.std.proofs.Common.{◌≡◌, ◌≢◌, ℕ, ◌+◌, ◌<◌, Bool, true, false, List, [], ◌∷◌, ◌++◌, slice_get, replicate, arith, Option, Some, None, is_some, refl, sym, ap, ◌∙◌, subst, append-nil, bytes_eq, inl, inr}
+use Rattle.std.proofs.Common.{◌≡◌, ◌≢◌, ℕ, ◌<◌, true, false, List, [], ◌∷◌, ◌++◌, slice_get, replicate, arith, Some, None, is_some, sym, ap, ◌∙◌, append-nil, bytes_eq, inl, inr}
 use Rattle.std.proofs.lemmas.Bool.{false≢true, cases_eq, false_from_ne_true}
 use Rattle.std.proofs.lemmas.List.{get_or-replicate, length-replicate}
 use Rattle.std.proofs.lemmas.Option.{same_Some, slice_get-get_or}
 use Rattle.rl_model.specs.declared.network.SegmentEnd.{SegmentEnd}
 use Rattle.rl_drafts.specs.Drafts.{number_in, end_at}
-use Rattle.rl_drafts.specs.Refusals.{is_among}
-use Rattle.rl_drafts.proofs.Numbers.{AreDistinct, AreDistinct-from_twice, same_from_bytes_eq, bytes_eq_from_same, number_in-item, is_among-item}
+use Rattle.rl_drafts.proofs.Numbers.{AreDistinct-from_twice, same_from_bytes_eq, bytes_eq_from_same, number_in-item, is_among-item}
 use Rattle.rl_net.specs.declared.rule_10_ends.Ends.{Ends}
 use Rattle.rl_net.specs.Ends.{ends_kept, Keeps}
 use Rattle.rl_net.specs.NameTables.{AreUnlike}

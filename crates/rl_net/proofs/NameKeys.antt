@@ -1,7 +1,11 @@
 -- The keys of a table of names, as the names that they are.
-use Rattle.std.proofs.Common.{◌≡◌, ℕ, suc, ◌+◌, ◌<◌, Bool, true, false, not, cond, ltb, ◌||◌, List, [], ◌∷◌, ◌++◌, length, map, position, Option, Some, None, is_some, option_map, refl, sym, ap, ap₂, ◌∙◌, arith, bytes_eq}
+use Rattle.std.proofs.Common.{◌≡◌, ℕ, zero, suc, slice_get, subst, ◌+◌, ◌<◌, Bool, true, false, not, cond, ltb, ◌||◌, List, [], ◌∷◌, ◌++◌, length, map, position, Option, Some, None, is_some, option_map, refl, ap, ap₂, ◌∙◌, arith, bytes_eq}
 use Rattle.std.specs.Prelude.{Vec}
-use Rattle.std.specs.List.{list_any, position_or_len}
+use Rattle.std.specs.List.{list_any, position_or_len, IsDistinct, AllByRecursion}
+use Rattle.std.proofs.lemmas.Map.Keys.{IsDistinct-head, IsDistinct-tail}
+use Rattle.std.proofs.lemmas.Slice.Eq.{bytes_eq-Decides}
+use Rattle.std.proofs.lemmas.List.{length-map}
+use Rattle.std.proofs.lemmas.Option.{slice_get_within}
 use Rattle.std.proofs.lemmas.Bool.{lt-ltb}
 use Rattle.std.proofs.lemmas.Bool.Decides.{nat_tests}
 use Rattle.std.specs.Cmp.Lexicographic.{nat_list_eq_equiv}
@@ -29,6 +33,34 @@ position-number [] q = refl
 position-number (k ∷ keys) q =
     position_cons (bytes_eq q k.items) (position_or_len (λ x. bytes_eq q x.items) keys) (length keys)
     ∙ ap₂ (λ b o. cond b (Some 0) (option_map suc o)) (nat_list_eq_equiv.symm q k.items) (position-number keys q)
+
+-- keys of which no two are the same name
+abbrev pub AreApart : List (Vec ℕ Global) → Type 0
+AreApart keys = IsDistinct (λ x y. bytes_eq x.items y.items) keys
+
+-- a key is apart from each later one
+apart_at : (key : Vec ℕ Global) (keys : List (Vec ℕ Global)) (i : ℕ) (k : Vec ℕ Global) → AllByRecursion (λ y. bytes_eq key.items y.items ≡ false) keys → slice_get keys i ≡ Some k → bytes_eq key.items k.items ≡ false
+apart_at key [] i k h e = cc
+apart_at key (x ∷ keys) zero k h e = let same : x ≡ k = cc in subst (λ (y : Vec ℕ Global). bytes_eq key.items y.items ≡ false) same h.0
+apart_at key (x ∷ keys) (suc i) k h e = apart_at key keys i k h.1 e
+
+-- where no two keys are the same, the key at a place is found there
+pub number-at : (keys : List (Vec ℕ Global)) (i : ℕ) (k : Vec ℕ Global) → AreApart keys → slice_get keys i ≡ Some k → number_in (names_of keys) k.items ≡ Some i
+number-at [] i k apart e = cc
+number-at (x ∷ keys) zero k apart e =
+    let same : x ≡ k = cc in
+    let here : bytes_eq x.items k.items ≡ true = (bytes_eq-Decides x.items k.items).1 (ap (λ (y : Vec ℕ Global). y.items) same) in
+    rw here refl
+number-at (x ∷ keys) (suc i) k apart e =
+    let differs : bytes_eq x.items k.items ≡ false = apart_at x keys i k (IsDistinct-head _ x keys apart) e in
+    let later = number-at keys i k (IsDistinct-tail _ x keys apart) e in
+    rw (differs, later) refl
+
+pub number_of_key : (keys : List (Vec ℕ Global)) (i : ℕ) (k : Vec ℕ Global) (q : List ℕ) → AreApart keys → slice_get keys i ≡ Some k → k.items ≡ q → (i < length (names_of keys)) × (number_in (names_of keys) q ≡ Some i)
+number_of_key keys i k q apart e same =
+    let within = slice_get_within keys i k e in
+    let count = length-map keys (λ (x : Vec ℕ Global). x.items) in
+    (omega (arith, count), subst (λ (n : List ℕ). number_in (names_of keys) n ≡ Some i) same (number-at keys i k apart e))
 
 -- one of the keys has the name where it is among the names
 any_cons : (b : Bool) (o : Option ℕ) (t : Bool) → t ≡ is_some o → (b || t) ≡ is_some (cond b (Some 0) (option_map suc o))

@@ -1,5 +1,5 @@
 -- A name that stands twice, as the first broken place of rule 6.
-use Rattle.std.proofs.Common.{◌≡◌, ℕ, ◌<◌, Bool, true, false, List, length, Option, Some, None, refl, sym, ap, ◌∙◌, subst, arith}
+use Rattle.std.proofs.Common.{◌≡◌, ℕ, ◌<◌, List, length, Some, None, ◌∙◌, subst}
 use Rattle.rl_base.specs.declared.place.Place.{Place}
 use Rattle.rl_base.specs.declared.draft.Draft.{Draft}
 use Rattle.rl_drafts.specs.Refusals.{breaks, is_twice}

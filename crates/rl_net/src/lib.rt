@@ -8,6 +8,7 @@
 
 mod draft_check;
 mod draft_network;
+pub mod name_hint;
 mod name_table;
 mod named_draft;
 mod names;
@@ -23,5 +24,6 @@ mod rules_12_13_routes;
 mod rules_7_to_9_arms;
 
 pub use draft_check::check;
+pub use name_hint::NameHint;
 pub use network::Network;
 pub use refusal::NetRefusal;

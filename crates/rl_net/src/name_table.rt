@@ -1,8 +1,9 @@
-ghost use Rattle.std.specs.Prelude.{◌≡◌, ◌<◌, [], ◌∷◌, ◌++◌, false, not, length, map, IfOk, OnOk, OnErr, IfErr, IfSome};
+ghost use Rattle.std.specs.Prelude.{◌≡◌, ◌<◌, [], ◌∷◌, ◌++◌, false, not, length, map, Some, IfOk, OnOk, OnErr, IfErr, IfSome};
 ghost use Rattle.rl_drafts.specs.Drafts.{number_in};
 ghost use Rattle.rl_drafts.specs.Refusals.{is_among};
 ghost use Rattle.rl_net.specs.NameTables.{AreUnlike, IsNameFault};
 
+use crate::name_hint::{HINT_PLACES, NameHint};
 use crate::names::Named;
 use indexmap::IndexSet;
 use rl_base::NoMemory;
@@ -10,9 +11,13 @@ use std::alloc::Global;
 use std::marker::Model;
 
 /// Names that differ, each with its number: its place, counted from 0. Contracts see the list of the names.
+///
+/// At the place that a name's hint means stands the number of one of the names with such a hint. So most
+/// look-ups end with one comparison, and only the others search.
 #[derive(Debug, Drop)]
 pub(crate) struct NameTable {
     names: IndexSet<Vec<u8>>,
+    hinted: Vec<usize>,
 }
 
 impl Model for NameTable {
@@ -42,12 +47,24 @@ impl From<NoMemory> for NameFault {
     }
 }
 
+/// The number of a name of each place that a hint means.
+fn noted(alloc: Global, names: &[Vec<u8>]) -> Result<Vec<usize>, NoMemory> {
+    let mut numbers = vec![in alloc; 0usize; HINT_PLACES as usize]?;
+    for (i, name) in names.iter().enumerate() {
+        if let Some(place) = numbers.get_mut(NameHint::of(name.as_slice()).place()) {
+            *place = i;
+        }
+    }
+    Ok(numbers)
+}
+
 impl NameTable {
     fn new(alloc: Global) -> NameTable
         ensures { result ≡ [] }
     {
         NameTable {
             names: IndexSet::new(alloc),
+            hinted: Vec::new(alloc),
         }
     }
 
@@ -57,6 +74,14 @@ impl NameTable {
         ensures added { is_among self.old name.now ≡ false → OnOk result (self.new ≡ self.old ++ name.now ∷ []) }
     {
         Ok(self.names.insert(Vec::from_slice(alloc, name)?)?)
+    }
+
+    /// Notes the number of each name at the place that its hint means.
+    fn note_hints(&mut self, alloc: Global) -> Result<(), NoMemory>
+        ensures { OnOk result (self.new ≡ self.old) }
+    {
+        self.hinted = noted(alloc, self.names.as_slice())?;
+        Ok(())
     }
 
     /// The table of the items' names.
@@ -71,7 +96,43 @@ impl NameTable {
                 return Err(NameFault::Twice(i));
             }
         }
+        table.note_hints(alloc)?;
         Ok(table)
+    }
+
+    /// The number of that name, if the hint means it.
+    #[inline(always)]
+    fn hinted(&self, name: &[u8], hint: NameHint) -> Option<usize>
+        ensures { IfSome result (λ i. (i < length self.now) × (number_in self.now name.now ≡ Some i)) }
+    {
+        let i = *self.hinted.get(hint.place())?;
+        let found = self.names.as_slice().get(i)?;
+        if found.as_slice() == name {
+            Some(i)
+        } else {
+            None
+        }
+    }
+
+    /// The number of that name, found with no hint.
+    #[inline(never)]
+    fn search(&self, name: &[u8]) -> Option<usize>
+        ensures number { result ≡ number_in self.now name.now }
+        ensures within { IfSome result (λ i. i < length self.now) }
+    {
+        self.names.get_index_of(name)
+    }
+
+    /// The number of that name, whatever the hint means. It takes no memory.
+    #[inline(always)]
+    pub(crate) fn find_by(&self, name: &[u8], hint: NameHint) -> Option<usize>
+        ensures number { result ≡ number_in self.now name.now }
+        ensures within { IfSome result (λ i. i < length self.now) }
+    {
+        match self.hinted(name, hint) {
+            Some(i) => Some(i),
+            None => self.search(name),
+        }
     }
 
     /// The number of that name. It takes no memory.
@@ -79,6 +140,6 @@ impl NameTable {
         ensures number { result ≡ number_in self.now name.now }
         ensures within { IfSome result (λ i. i < length self.now) }
     {
-        self.names.get_index_of(name)
+        self.find_by(name, NameHint::of(name))
     }
 }

@@ -4,6 +4,7 @@ ghost use Rattle.rl_base.specs.Name.{is_name};
 ghost use Rattle.rl_net.specs.NamedNetwork.{IsNamed};
 ghost use Rattle.rl_model.specs.Network.{IsNetwork, IsSegmentOf, IsBoxOf, IsTrainOf, kind_of, start_side, arm_of, segment_at, connects, side_for, steps_of, route_segment, route_box, segment_name, box_name, train_name};
 
+use crate::name_hint::NameHint;
 use crate::named_draft::NameTables;
 use rl_base::{Arm, BoxId, Kind, Layout, SegId, Side, TrainId, joins};
 use rl_model::NetworkPlan;
@@ -211,7 +212,16 @@ impl Network {
         ensures some { IfSome result (λ s. (s.0 < length self.now.segments) × (segment_name self.now s.0 ≡ name.now)) }
         ensures none { IfNone result ((s : ℕ) → s < length self.now.segments → segment_name self.now s ≢ name.now) }
     {
-        match self.names.segments.find(name) {
+        self.find_seg_by(name, NameHint::of(name))
+    }
+
+    /// As `find_seg`, and fast where the hint is the name's. Every hint gives the same answer.
+    #[inline(always)]
+    pub fn find_seg_by(&self, name: &[u8], hint: NameHint) -> Option<SegId>
+        ensures some { IfSome result (λ s. (s.0 < length self.now.segments) × (segment_name self.now s.0 ≡ name.now)) }
+        ensures none { IfNone result ((s : ℕ) → s < length self.now.segments → segment_name self.now s ≢ name.now) }
+    {
+        match self.names.segments.find_by(name, hint) {
             Some(s) => Some(SegId(s as u32)),
             None => None,
         }
@@ -222,7 +232,16 @@ impl Network {
         ensures some { IfSome result (λ b. (b.0 < length self.now.boxes) × (box_name self.now b.0 ≡ name.now)) }
         ensures none { IfNone result ((b : ℕ) → b < length self.now.boxes → box_name self.now b ≢ name.now) }
     {
-        match self.names.boxes.find(name) {
+        self.find_box_by(name, NameHint::of(name))
+    }
+
+    /// As `find_box`, and fast where the hint is the name's. Every hint gives the same answer.
+    #[inline(always)]
+    pub fn find_box_by(&self, name: &[u8], hint: NameHint) -> Option<BoxId>
+        ensures some { IfSome result (λ b. (b.0 < length self.now.boxes) × (box_name self.now b.0 ≡ name.now)) }
+        ensures none { IfNone result ((b : ℕ) → b < length self.now.boxes → box_name self.now b ≢ name.now) }
+    {
+        match self.names.boxes.find_by(name, hint) {
             Some(b) => Some(BoxId(b as u32)),
             None => None,
         }
@@ -233,7 +252,16 @@ impl Network {
         ensures some { IfSome result (λ t. (t.0 < length self.now.trains) × (train_name self.now t.0 ≡ name.now)) }
         ensures none { IfNone result ((t : ℕ) → t < length self.now.trains → train_name self.now t ≢ name.now) }
     {
-        match self.names.trains.find(name) {
+        self.find_train_by(name, NameHint::of(name))
+    }
+
+    /// As `find_train`, and fast where the hint is the name's. Every hint gives the same answer.
+    #[inline(always)]
+    pub fn find_train_by(&self, name: &[u8], hint: NameHint) -> Option<TrainId>
+        ensures some { IfSome result (λ t. (t.0 < length self.now.trains) × (train_name self.now t.0 ≡ name.now)) }
+        ensures none { IfNone result ((t : ℕ) → t < length self.now.trains → train_name self.now t ≢ name.now) }
+    {
+        match self.names.trains.find_by(name, hint) {
             Some(t) => Some(TrainId(t as u32)),
             None => None,
         }

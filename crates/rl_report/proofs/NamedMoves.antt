@@ -1,5 +1,5 @@
 -- A move's line begins with the name of the move.
-use Rattle.std.proofs.Common.{◌≡◌, ◌≢◌, ℕ, List, ◌∷◌, refl}
+use Rattle.std.proofs.Common.{◌≡◌, ◌≢◌, ℕ, List, ◌∷◌, ◌∙◌, refl}
 use Rattle.rl_model.specs.declared.moves.Move.{Move}
 use Rattle.rl_model.specs.declared.moves.Move.TheVariants.{Reserve, Release, Lock, Unlock, Throw, Settle, Enter, Leave, Refuse, Bar}
 use Rattle.rl_model.specs.declared.network.NetworkPlan.{NetworkPlan}
@@ -26,9 +26,8 @@ named net (Leave t s) = record { name = name.Leave; others = _; words = refl }
 named net (Refuse t s b u) = record { name = name.Refuse; others = _; words = refl }
 named net (Bar t b u) = record { name = name.Bar; others = _; words = refl }
 
-pub none_unnamed : (net : NetworkPlan) (word : List ℕ) (words : List (List ℕ)) → ((n : MoveName) → word ≢ name_word n) → (m : Move) → word ∷ words ≢ move_words net m
-none_unnamed net word words none m e =
+-- words that don't begin with one of the names are no move's
+pub none_unnamed : (net : NetworkPlan) (words : List (List ℕ)) → ((n : MoveName) (rest : List (List ℕ)) → words ≢ name_word n ∷ rest) → (m : Move) → words ≢ move_words net m
+none_unnamed net words none m e =
     let is = named net m in
-    let words_are = is.words in
-    let same : word ≡ name_word is.name = cc in
-    none is.name same
+    none is.name is.others (e ∙ is.words)

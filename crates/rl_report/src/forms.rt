@@ -26,6 +26,7 @@ fn side_of(word: &[u8]) -> Option<Side>
 }
 
 /// Reads the last words of a line: two segments.
+#[inline(always)]
 fn segments(words: &mut Words<'_>, net: &Network) -> Option<(SegId, SegId)>
     ensures some { IfSome result (λ x. IsSegmentOf net.now x.0 × IsSegmentOf net.now x.1
         × (words.old ≡ segment_name net.now x.0.0 ∷ segment_name net.now x.1.0 ∷ [])) }
@@ -43,6 +44,7 @@ fn segments(words: &mut Words<'_>, net: &Network) -> Option<(SegId, SegId)>
 }
 
 /// Reads the last words of a line: a box and a train.
+#[inline(always)]
 fn box_train(words: &mut Words<'_>, net: &Network) -> Option<(BoxId, TrainId)>
     ensures some { IfSome result (λ x. IsBoxOf net.now x.0 × IsTrainOf net.now x.1
         × (words.old ≡ box_name net.now x.0.0 ∷ train_name net.now x.1.0 ∷ [])) }
@@ -60,6 +62,7 @@ fn box_train(words: &mut Words<'_>, net: &Network) -> Option<(BoxId, TrainId)>
 }
 
 /// Reads the last words of a line: a train, a segment and a box.
+#[inline(always)]
 pub(crate) fn train_segment_box(
     words: &mut Words<'_>,
     net: &Network,
@@ -81,6 +84,7 @@ pub(crate) fn train_segment_box(
 }
 
 /// Reads the last words of a line: a train, a box, a segment and a segment.
+#[inline(always)]
 pub(crate) fn train_box_segments(
     words: &mut Words<'_>,
     net: &Network,
@@ -101,6 +105,7 @@ pub(crate) fn train_box_segments(
 }
 
 /// Reads the last words of a line: a train and a box.
+#[inline(always)]
 pub(crate) fn train_box(words: &mut Words<'_>, net: &Network) -> Option<(TrainId, BoxId)>
     ensures some { IfSome result (λ x. IsTrainOf net.now x.0 × IsBoxOf net.now x.1
         × (words.old ≡ train_name net.now x.0.0 ∷ box_name net.now x.1.0 ∷ [])) }
@@ -118,6 +123,7 @@ pub(crate) fn train_box(words: &mut Words<'_>, net: &Network) -> Option<(TrainId
 }
 
 /// Reads the last words of a line: a train and a segment.
+#[inline(always)]
 pub(crate) fn train_segment(words: &mut Words<'_>, net: &Network) -> Option<(TrainId, SegId)>
     ensures some { IfSome result (λ x. IsTrainOf net.now x.0 × IsSegmentOf net.now x.1
         × (words.old ≡ train_name net.now x.0.0 ∷ segment_name net.now x.1.0 ∷ [])) }
@@ -135,6 +141,7 @@ pub(crate) fn train_segment(words: &mut Words<'_>, net: &Network) -> Option<(Tra
 }
 
 /// Reads the last words of a line: a train, a segment, a box and a train.
+#[inline(always)]
 pub(crate) fn train_segment_box_train(
     words: &mut Words<'_>,
     net: &Network,
@@ -155,6 +162,7 @@ pub(crate) fn train_segment_box_train(
 }
 
 /// Reads the last words of a line: a train, a box and a train.
+#[inline(always)]
 pub(crate) fn train_box_train(
     words: &mut Words<'_>,
     net: &Network,

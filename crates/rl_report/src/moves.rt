@@ -1,8 +1,9 @@
-ghost use Rattle.std.specs.Prelude.{◌≡◌, ◌≢◌, ◌∷◌, ◌++◌, [], List, IfSome, IfNone};
+ghost use Rattle.std.specs.Prelude.{◌≡◌, ◌≢◌, ◌∷◌, ◌++◌, [], ℕ, List, IfSome, IfNone};
 ghost use Rattle.rl_model.specs.declared.moves.Move.{Move};
 ghost use Rattle.rl_model.specs.Moves.{IsMoveOf};
 ghost use Rattle.rl_model.specs.ReportText.{move_words};
 ghost use Rattle.rl_report.specs.declared.moves.MoveName.{MoveName};
+ghost use Rattle.rl_text.specs.Words.{words_of};
 ghost use Rattle.rl_report.specs.MoveNames.{name_word};
 ghost use Rattle.rl_report.specs.Grammar.{IsMoveLine};
 
@@ -107,13 +108,61 @@ fn read_named(name: MoveName, words: &mut Words<'_>, net: &Network) -> Option<Mo
     }
 }
 
-/// Reads the words of a move's line.
-fn read_move_words(words: &mut Words<'_>, net: &Network) -> Option<Move>
-    ensures some { IfSome result (λ m. IsMoveOf net.now m × (words.old ≡ move_words net.now m)) }
-    ensures none { IfNone result ((m : Move) → IsMoveOf net.now m → words.old ≢ move_words net.now m) }
+/// The name with which the line begins, told by two of its letters, if it begins with one.
+fn likely_name(line: &[u8]) -> MoveName {
+    match (line.get(0), line.get(2)) {
+        (Some(b'r'), Some(b's')) => MoveName::Reserve,
+        (Some(b'r'), Some(b'l')) => MoveName::Release,
+        (Some(b'r'), _) => MoveName::Refuse,
+        (Some(b'l'), Some(b'c')) => MoveName::Lock,
+        (Some(b'l'), _) => MoveName::Leave,
+        (Some(b'u'), _) => MoveName::Unlock,
+        (Some(b't'), _) => MoveName::Throw,
+        (Some(b's'), _) => MoveName::Settle,
+        (Some(b'e'), _) => MoveName::Enter,
+        _ => MoveName::Bar,
+    }
+}
+
+/// What follows the name and a space, if the line begins with them.
+fn after_name(line: &[u8], name: MoveName) -> Option<&[u8]>
+    ensures { IfSome result (λ rest. words_of line.now ≡ name_word name ∷ words_of rest.now) }
 {
+    match name {
+        MoveName::Reserve => line.strip_prefix(b"reserve ".as_slice()),
+        MoveName::Release => line.strip_prefix(b"release ".as_slice()),
+        MoveName::Lock => line.strip_prefix(b"lock ".as_slice()),
+        MoveName::Unlock => line.strip_prefix(b"unlock ".as_slice()),
+        MoveName::Throw => line.strip_prefix(b"throw ".as_slice()),
+        MoveName::Settle => line.strip_prefix(b"settle ".as_slice()),
+        MoveName::Enter => line.strip_prefix(b"enter ".as_slice()),
+        MoveName::Leave => line.strip_prefix(b"leave ".as_slice()),
+        MoveName::Refuse => line.strip_prefix(b"refuse ".as_slice()),
+        MoveName::Bar => line.strip_prefix(b"bar ".as_slice()),
+    }
+}
+
+/// The name that is the first word of the line, and the words after it.
+fn first_name(line: &[u8]) -> Option<(MoveName, Words<'_>)>
+    ensures some { IfSome result (λ first. words_of line.now ≡ name_word first.0 ∷ first.1) }
+    ensures none { IfNone result ((name : MoveName) (rest : List (List ℕ)) → words_of line.now ≢ name_word name ∷ rest) }
+{
+    let likely = likely_name(line);
+    if let Some(rest) = after_name(line, likely) {
+        return Some((likely, Words::new(rest)));
+    }
+    let mut words = Words::new(line);
     let name = move_name(words.next()?)?;
-    read_named(name, words, net)
+    Some((name, words))
+}
+
+/// Reads the words of a move's line.
+fn read_words(line: &[u8], net: &Network) -> Option<Move>
+    ensures some { IfSome result (λ m. IsMoveOf net.now m × (words_of line.now ≡ move_words net.now m)) }
+    ensures none { IfNone result ((m : Move) → IsMoveOf net.now m → words_of line.now ≢ move_words net.now m) }
+{
+    let (name, mut words) = first_name(line)?;
+    read_named(name, &mut words, net)
 }
 
 /// The move whose line this is, given without its LF. `None` for every other text.
@@ -123,5 +172,5 @@ pub fn read_move(net: &Network, line: &[u8]) -> Option<Move>
 {
     // What acceptance gave, for the proof.
     let _trains = net.trains();
-    read_move_words(&mut Words::new(line), net)
+    read_words(line, net)
 }

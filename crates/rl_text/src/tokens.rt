@@ -2,6 +2,7 @@ ghost use Rattle.std.specs.Prelude.{◌≡◌, ◌+◌, ◌≤◌, ◌↔◌, []
 ghost use Rattle.std.specs.List.{flat_map, position_or_len};
 ghost use Rattle.rl_text.specs.Lines.{bytes_of, lines_of, longest_text};
 
+use memchr::memchr;
 use std::marker::Model;
 
 /// One line of a text.
@@ -37,7 +38,7 @@ impl<'a> Model for Tokens<'a> {
 fn line_end(text: &[u8]) -> usize
     ensures { result ≡ position_or_len (λ b. b == 10) text.now }
 {
-    text.iter().position(|b| *b == b'\n').unwrap_or(text.len())
+    memchr(b'\n', text).unwrap_or(text.len())
 }
 
 /// What follows the byte at `end`, which is nothing where there is no such byte.
@@ -66,6 +67,7 @@ impl<'a> Tokens<'a> {
     }
 
     /// Gives the next line, and `None` at the end of the text and ever after.
+    #[inline(always)]
     pub fn line(&mut self) -> Option<TextLine<'a>>
         ensures end { IsNone result ↔ (self.old.left ≡ []) }
         ensures first { IfSome result (λ line. self.old.left ≡

@@ -1,4 +1,4 @@
-use Rattle.std.proofs.Common.{◌≡◌, ℕ, List, None, length, map, refl, ap, ◌∙◌, subst}
+use Rattle.std.proofs.Common.{ℕ, List, None, length, map, refl, ap, subst}
 use Rattle.std.proofs.lemmas.List.{length-map}
 use Rattle.rl_base.specs.declared.draft.DraftBox.{DraftBox}
 use Rattle.rl_base.specs.declared.place.Place.TheVariants.{BoxName}

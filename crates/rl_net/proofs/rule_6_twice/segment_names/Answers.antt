@@ -1,4 +1,4 @@
-use Rattle.std.proofs.Common.{◌≡◌, ℕ, List, None, length, map, refl, ap, ◌∙◌, subst}
+use Rattle.std.proofs.Common.{ℕ, List, None, length, refl, ap, ◌∙◌, subst}
 use Rattle.std.proofs.lemmas.List.{map-id}
 use Rattle.rl_base.specs.declared.place.Place.TheVariants.{Segment}
 use Rattle.rl_drafts.specs.Search.{refuse}

@@ -1,6 +1,6 @@
 use Rattle.std.proofs.Common.{◌∙◌}
 use Rattle.rl_net.proofs.NameKeys.{position-number}
-use Rattle.rl_net.proofs.name_table.NameTable.find.Goals as goal
+use Rattle.rl_net.proofs.name_table.NameTable.search.Goals as goal
 
 pub returns-clause-number : goal.returns-clause-number
 returns-clause-number c =

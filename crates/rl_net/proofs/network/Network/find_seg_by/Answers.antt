@@ -1,7 +1,6 @@
-use Rattle.std.proofs.Common.{arith}
 use Rattle.rl_model.specs.declared.network.Segment.{Segment}
 use Rattle.rl_net.proofs.Found.{table_at, table_nowhere}
-use Rattle.rl_net.proofs.network.Network.find_seg.Goals as goal
+use Rattle.rl_net.proofs.network.Network.find_seg_by.Goals as goal
 
 pub returns-in-Some-clause-some : goal.returns-in-Some-clause-some
 returns-in-Some-clause-some c =

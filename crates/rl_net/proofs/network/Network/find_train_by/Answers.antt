@@ -1,7 +1,6 @@
-use Rattle.std.proofs.Common.{arith}
 use Rattle.rl_model.specs.declared.network.Train.{Train}
 use Rattle.rl_net.proofs.Found.{table_at, table_nowhere}
-use Rattle.rl_net.proofs.network.Network.find_train.Goals as goal
+use Rattle.rl_net.proofs.network.Network.find_train_by.Goals as goal
 
 pub returns-in-Some-clause-some : goal.returns-in-Some-clause-some
 returns-in-Some-clause-some c =
