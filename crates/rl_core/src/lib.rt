@@ -7,15 +7,15 @@
 pub mod cores;
 mod look;
 pub mod moves;
-pub mod reports;
 mod redoing;
 pub mod replays;
+pub mod reports;
 mod starts;
 mod turns;
 mod worlds;
 
 pub use cores::Core;
 pub use moves::move_of;
-pub use reports::report_of;
 pub use replays::{ReplayFault, replay};
+pub use reports::report_of;
 pub use rl_runs::Mind;

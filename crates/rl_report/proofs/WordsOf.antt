@@ -18,6 +18,7 @@ first_space text i within none here =
   where
     other : (b : ℕ) → (b ≡ 32 → ⊥) → (b == 32) ≡ false
     other b h = grind (arith, nat_tests)
+
     space : (b : ℕ) → b ≡ 32 → (b == 32) ≡ true
     space b h = grind (arith, nat_tests)
 
