@@ -1,148 +1,131 @@
--- From the answer to an order to what a call promises.
-use Rattle.std.proofs.Common.{Result, Ok, Err, IfOk, ◌≡◌, ◌≢◌, ℕ, Bool, true, false, List, [], ◌∷◌, Option, Some, None, IfSome, IsSome, option_map, refl, sym, ap, subst, arith, ◌∙◌}
-use Rattle.std.specs.Str.{bytes_eq}
+-- From how the words end to what a call promises.
+use Rattle.std.proofs.Common.{Result, Ok, Err, IfOk, ◌≡◌, ◌≢◌, ◌<◌, ℕ, List, [], ◌∷◌, Option, Some, None, IsSome, Contains, inl, inr, refl, sym, ap, subst, arith, ◌∙◌}
 use Rattle.std.specs.Io.KnownBytes.{Appends}
-use Rattle.std.proofs.lemmas.Option.{same_Some}
-use Rattle.std.proofs.lemmas.Slice.Eq.{bytes_eq-Decides}
-use Rattle.rl_base.specs.declared.memory.NoMemory.{NoMemory}
-use Rattle.relis.specs.declared.decide.Decision.{Decision}
-use Rattle.relis.specs.Answers.{IsAnswerOn, IsAnswerTo, AreTold, IsCarriedOut, IsNamed, NamedRose, NoneRose, LeadsTo}
+use Rattle.rl_outside.specs.Causes.{Rose}
+use Rattle.rl_cli.specs.declared.order.Order.{Order}
+use Rattle.relis.specs.Answers.{Held, Counts, NoneRose, OneRose, CouldNotRead, IsCarriedOut, EndsAs, IsOutcome, LeadsTo, UnlessMemory, names_of}
 use Rattle.relis.specs.Calls.{Outside, IsWritten, HasCause}
-use Rattle.relis.specs.Orders.{order_of, network_file, files_of}
-use Rattle.relis.specs.declared.orders.Order.{Order}
-use Rattle.relis.specs.declared.orders.Order.TheVariants.{Check, Tables, Drive}
+use Rattle.relis.specs.Commands.{End}
+use Rattle.relis.specs.Lines.{status_line}
+use Rattle.relis.specs.Orders.{files_of}
 use Rattle.relis.specs.declared.status.Status.{Status}
 use Rattle.relis.specs.declared.status.Status.TheVariants as status
-use Rattle.relis.proofs.Judgements.{judged, judged-accepted, judged-refused}
+use Rattle.relis.proofs.Fetches.{contains_first, contains_later}
+use Rattle.relis.proofs.OneEnd.{status_of, one_end}
 
--- where the count of one name stays, and those of all others, no count rose
-pub none_rose : (name : List ℕ) (before now : List ℕ → ℕ) → now name ≡ before name →
-    ((n : List ℕ) → n ≢ name → now n ≡ before n) → NoneRose before now
-none_rose name before now same others n = by_test (bytes_eq n name) refl
-  where
-    by_test : (b : Bool) → bytes_eq n name ≡ b → now n ≡ before n
-    by_test true is = let e : n ≡ name = (bytes_eq-Decides n name).0 is in rw e same
-    by_test false is = others n (λ e. absurd (let is_true : bytes_eq n name ≡ true = (bytes_eq-Decides n name).1 e in cc))
-
--- the words name the file of their order's network
-pub named_first : (words : List (List ℕ)) (order : Order) → order_of words ≡ Some order → IsNamed words (network_file order)
-named_first words order is = (order, is, (0, omega arith, refl))
-
--- an order that names one file is carried out on it
-pub carried_out : (held : List ℕ → Option (List ℕ)) (order : Order) (answer : Status) (bytes text : List ℕ) →
-    IfSome (held (network_file order)) (λ there. bytes ≡ there) → IsAnswerOn order bytes answer text →
-    IsCarriedOut held order answer text
-carried_out held (Check net) answer bytes text told answered =
-    record { contents = bytes ∷ []; told = (told, tt); answered = answered }
-carried_out held (Tables net) answer bytes text told answered =
-    record { contents = bytes ∷ []; told = (told, tt); answered = answered }
-carried_out held (Drive net rounds) answer bytes text told answered =
-    record { contents = bytes ∷ []; told = (told, tt); answered = answered }
-
--- an answer to a network text has its cause
-pub leads_on : (words : List (List ℕ)) (held : List ℕ → Option (List ℕ)) (before now : List ℕ → ℕ) (order : Order)
-    (answer : Status) (bytes text : List ℕ) → order_of words ≡ Some order → NoneRose before now →
-    IfSome (held (network_file order)) (λ there. bytes ≡ there) → IsAnswerOn order bytes answer text →
-    LeadsTo words held before now answer text
-leads_on words held before now order status.Done bytes text is none told answered =
-    (order, is, none, carried_out held order status.Done bytes text told answered)
-leads_on words held before now order (status.Refused n p) bytes text is none told answered =
-    (order, is, none, carried_out held order (status.Refused n p) bytes text told answered)
-leads_on words held before now order status.Usage bytes text is none told answered = absurd answered
-leads_on words held before now order status.ReadFault bytes text is none told answered = absurd answered
-leads_on words held before now order status.WriteFault bytes text is none told answered = absurd answered
-leads_on words held before now order status.NoMemory bytes text is none told answered = absurd answered
-
--- what was decided on a network text has its cause
-pub decided : (r : Result Decision NoMemory) (held : List ℕ → Option (List ℕ)) (before now : List ℕ → ℕ) (order : Order)
-    (bytes : List ℕ) → NoneRose before now → IfSome (held (network_file order)) (λ there. bytes ≡ there) →
-    IfOk r (λ d. IsAnswerOn order bytes d.status d.text) →
-    IfOk r (λ d. (words : List (List ℕ)) → order_of words ≡ Some order → LeadsTo words held before now d.status d.text)
-decided (Ok d) held before now order bytes none told answered =
-    λ words is. leads_on words held before now order d.status bytes d.text is none told answered
-decided (Err e) held before now order bytes none told answered = answered
+-- an end other than want of memory has its cause, with its line
+pub leads_on : (asked : Option Order) (held : Held) (before now : Counts) (answer : Status) (text : List ℕ) → (answer ≡ status.NoMemory → ⊥) →
+    UnlessMemory (IsOutcome asked held before now) (Err answer) → text ≡ status_line answer → (IsOutcome asked held before now (Err status.Done) → ⊥) →
+    (IsOutcome asked held before now (Err status.WriteFault) → ⊥) → LeadsTo asked held before now answer text
+leads_on asked held before now status.Usage text some end line done fault = (end, line)
+leads_on asked held before now status.ReadFault text some end line done fault = (end, line)
+leads_on asked held before now (status.Refused n p) text some end line done fault = (end, line)
+leads_on asked held before now (status.NotSafe l g) text some end line done fault = (end, line)
+leads_on asked held before now status.NoMemory text some end line done fault = absurd (some refl)
+leads_on asked held before now status.Done text some end line done fault = absurd (done end)
+leads_on asked held before now status.WriteFault text some end line done fault = absurd (fault end)
 
 -- the whole text of an answer was written
-pub written_whole : (words : List (List ℕ)) (before now : Outside) (answer : Status) (text : List ℕ) →
-    HasCause words before now answer text → Appends before.written now.written text → IsWritten words before now answer
-written_whole words before now status.Usage text leads put = (text, leads, put)
-written_whole words before now status.ReadFault text leads put = (text, leads, put)
-written_whole words before now status.Done text leads put = (text, leads, put)
-written_whole words before now (status.Refused n p) text leads put = (text, leads, put)
-written_whole words before now status.WriteFault text leads put = absurd leads
-written_whole words before now status.NoMemory text leads put = absurd leads
-
--- where the count of a named file rose, the answer is a read fault
-pub told_fault : (words : List (List ℕ)) (held : List ℕ → Option (List ℕ)) (before now : List ℕ → ℕ) (answer : Status)
-    (text : List ℕ) → LeadsTo words held before now answer text → NamedRose words before now → answer ≡ status.ReadFault
-told_fault words held before now status.ReadFault text leads rose = refl
-told_fault words held before now status.Usage text leads rose = absurd (omega (arith, leads.1 rose.0, rose.2))
-told_fault words held before now status.Done text leads rose = absurd (omega (arith, leads.2 rose.0, rose.2))
-told_fault words held before now (status.Refused n p) text leads rose = absurd (omega (arith, leads.2 rose.0, rose.2))
-told_fault words held before now status.WriteFault text leads rose = absurd leads
-told_fault words held before now status.NoMemory text leads rose = absurd leads
+pub written_whole : (asked : Option Order) (before now : Outside) (answer : Status) (text : List ℕ) →
+    HasCause asked before now answer text → Appends before.written now.written text → IsWritten asked before now answer
+written_whole asked before now status.Usage text leads put = (text, leads, put)
+written_whole asked before now status.ReadFault text leads put = (text, leads, put)
+written_whole asked before now status.Done text leads put = (text, leads, put)
+written_whole asked before now (status.Refused n p) text leads put = (text, leads, put)
+written_whole asked before now (status.NotSafe l g) text leads put = (text, leads, put)
+written_whole asked before now status.WriteFault text leads put = absurd leads
+written_whole asked before now status.NoMemory text leads put = absurd leads
 
 -- an answer with a cause is no write fault
-pub no_write_fault : (words : List (List ℕ)) (held : List ℕ → Option (List ℕ)) (before now : List ℕ → ℕ) (answer : Status)
-    (text : List ℕ) → LeadsTo words held before now answer text → answer ≢ status.WriteFault
-no_write_fault words held before now answer text leads is =
-    subst (λ (s : Status). LeadsTo words held before now s text) is leads
+pub no_write_fault : (asked : Option Order) (held : Held) (before now : Counts) (answer : Status) (text : List ℕ) →
+    LeadsTo asked held before now answer text → answer ≢ status.WriteFault
+no_write_fault asked held before now answer text leads is =
+    subst (λ (s : Status). LeadsTo asked held before now s text) is leads
 
--- the one answer to the words, where nothing fails and the files tell their network
-abbrev pub answer_for : (List ℕ → Option (List ℕ)) → Option Order → Option Status
-answer_for held None = Some status.Usage
-answer_for held (Some order) = option_map judged (held (network_file order))
+-- the end that an answer with a cause comes from
+abbrev end_of : Status → List ℕ → End
+end_of status.Done text = Ok text
+end_of answer text = Err answer
 
-at_told : (told : Option (List ℕ)) (bytes : List ℕ) (answer : Status) → IsSome told → IfSome told (λ there. bytes ≡ there) →
-    judged bytes ≡ answer → option_map judged told ≡ Some answer
-at_told None bytes answer some is judgement = absurd (cc)
-at_told (Some there) bytes answer some is judgement = ap Some (ap judged (sym is) ∙ judgement)
+outcome : (asked : Option Order) (held : Held) (before now : Counts) (answer : Status) (text : List ℕ) →
+    LeadsTo asked held before now answer text → IsOutcome asked held before now (end_of answer text)
+outcome asked held before now status.Done text leads = leads
+outcome asked held before now status.Usage text leads = leads.0
+outcome asked held before now status.ReadFault text leads = leads.0
+outcome asked held before now (status.Refused n p) text leads = leads.0
+outcome asked held before now (status.NotSafe l g) text leads = leads.0
+outcome asked held before now status.WriteFault text leads = absurd leads
+outcome asked held before now status.NoMemory text leads = absurd leads
 
-at_order : (words : List (List ℕ)) (held : List ℕ → Option (List ℕ)) (o : Option Order) (answer : Status) →
-    order_of words ≡ o → answer_for held o ≡ Some answer → answer_for held (order_of words) ≡ Some answer
-at_order words held o answer is h = rw is h
+status_of-end_of : (answer : Status) (text : List ℕ) → status_of (end_of answer text) ≡ answer
+status_of-end_of status.Done text = refl
+status_of-end_of status.Usage text = refl
+status_of-end_of status.ReadFault text = refl
+status_of-end_of (status.Refused n p) text = refl
+status_of-end_of (status.NotSafe l g) text = refl
+status_of-end_of status.WriteFault text = refl
+status_of-end_of status.NoMemory text = refl
 
-on_text : (held : List ℕ → Option (List ℕ)) (order : Order) (answer : Status) (bytes text : List ℕ) →
-    IsAnswerOn order bytes answer text → judged bytes ≡ answer
-on_text held order status.Done bytes text answered = judged-accepted bytes answered.0 answered.1
-on_text held order (status.Refused n p) bytes text answered = judged-refused bytes n p answered.0
-on_text held order status.Usage bytes text answered = absurd answered
-on_text held order status.ReadFault bytes text answered = absurd answered
-on_text held order status.WriteFault bytes text answered = absurd answered
-on_text held order status.NoMemory bytes text answered = absurd answered
+-- an order ends with a read fault, of which a named file's count rose, or no count rose and it was carried out
+data EndsBy (order : Order) (held : Held) (before now : Counts) (e : End) : Type 0 where
+  unread : e ≡ Err status.ReadFault → CouldNotRead held before now (files_of order) → EndsBy order held before now e
+  carried : NoneRose before now → IsCarriedOut held order e → EndsBy order held before now e
 
-on_contents : (held : List ℕ → Option (List ℕ)) (order : Order) (answer : Status) (contents : List (List ℕ)) (text : List ℕ) →
-    IsSome (held (network_file order)) → AreTold held (files_of order) contents → IsAnswerTo order contents answer text →
-    answer_for held (Some order) ≡ Some answer
-on_contents held order answer [] text some told answered = absurd answered
-on_contents held order answer (bytes ∷ others) text some told answered =
-    at_told (held (network_file order)) bytes answer some told.0 (on_text held order answer bytes text answered)
+ends_by : (order : Order) (held : Held) (before now : Counts) (e : End) → EndsAs order held before now e → EndsBy order held before now e
+ends_by order held before now (Ok text) ends = carried ends.0 ends.1
+ends_by order held before now (Err status.ReadFault) ends = unread refl ends
+ends_by order held before now (Err status.Done) ends = carried ends.0 ends.1
+ends_by order held before now (Err status.Usage) ends = carried ends.0 ends.1
+ends_by order held before now (Err (status.Refused n p)) ends = carried ends.0 ends.1
+ends_by order held before now (Err (status.NotSafe l g)) ends = carried ends.0 ends.1
+ends_by order held before now (Err status.WriteFault) ends = carried ends.0 ends.1
+ends_by order held before now (Err status.NoMemory) ends = carried ends.0 ends.1
 
-carried_answer : (words : List (List ℕ)) (held : List ℕ → Option (List ℕ)) (order : Order) (answer : Status) (text : List ℕ) →
-    ((name : List ℕ) → IsNamed words name → IsSome (held name)) → order_of words ≡ Some order →
-    IsCarriedOut held order answer text → answer_for held (order_of words) ≡ Some answer
-carried_answer words held order answer text all is carried =
-    at_order words held (Some order) answer is
-    (on_contents held order answer carried.contents text (all (network_file order) (named_first words order is)) carried.told carried.answered)
+-- where none could be read, a count rose
+rose : (held : Held) (before now : Counts) (names : List (List ℕ)) → CouldNotRead held before now names → OneRose names before now
+rose held before now [] none = absurd none
+rose held before now (first ∷ others) why = elim why [
+  | inl up ↦ (first, contains_first first others, up)
+  | inr w ↦ (w.1.0, contains_later first others w.1.0 w.1.1, w.1.2)
+]
 
--- the answer to which the words and told files lead is that one, unless a fetch failed
-pub leads_answer : (words : List (List ℕ)) (held : List ℕ → Option (List ℕ)) (before now : List ℕ → ℕ) (answer : Status)
-    (text : List ℕ) → ((name : List ℕ) → IsNamed words name → IsSome (held name)) → (NamedRose words before now → ⊥) →
-    LeadsTo words held before now answer text → answer_for held (order_of words) ≡ Some answer
-leads_answer words held before now status.Usage text all read leads = at_order words held None status.Usage leads.0 refl
-leads_answer words held before now status.ReadFault text all read leads = absurd (read leads.0)
-leads_answer words held before now status.Done text all read leads =
-    carried_answer words held leads.0 status.Done text all leads.1 leads.3
-leads_answer words held before now (status.Refused n p) text all read leads =
-    carried_answer words held leads.0 (status.Refused n p) text all leads.1 leads.3
-leads_answer words held before now status.WriteFault text all read leads = absurd leads
-leads_answer words held before now status.NoMemory text all read leads = absurd leads
+stays : (names : List (List ℕ)) (before now : Counts) → NoneRose before now → OneRose names before now → ⊥
+stays names before now none one = let same = none one.0 in let up : before one.0 < now one.0 = one.2 in omega arith
+
+-- where the count of a named file rose, the end is a read fault
+read_fault : (asked : Option Order) (held : Held) (before now : Counts) (e : End) → IsOutcome asked held before now e →
+    OneRose (names_of asked) before now → status_of e ≡ status.ReadFault
+read_fault None held before now e ends one = absurd (stays [] before now ends.1 one)
+read_fault (Some order) held before now e ends one = by_way (ends_by order held before now e ends)
+  where
+    by_way : EndsBy order held before now e → status_of e ≡ status.ReadFault
+    by_way (unread is why) = ap status_of is
+    by_way (carried none work) = absurd (stays (files_of order) before now none one)
+
+pub told_fault : (asked : Option Order) (held : Held) (before now : Counts) (answer : Status) (text : List ℕ) →
+    LeadsTo asked held before now answer text → OneRose (names_of asked) before now → answer ≡ status.ReadFault
+told_fault asked held before now answer text leads one =
+    sym (status_of-end_of answer text) ∙ read_fault asked held before now (end_of answer text) (outcome asked held before now answer text leads) one
+
+-- where no count rose, two ends of the same words over the same files have one status
+same_end : (asked : Option Order) (held : Held) (x y u v : Counts) (e f : End) →
+    ((name : List ℕ) → Contains (names_of asked) name → IsSome (held name)) → (OneRose (names_of asked) x y → ⊥) → (OneRose (names_of asked) u v → ⊥) →
+    IsOutcome asked held x y e → IsOutcome asked held u v f → status_of e ≡ status_of f
+same_end None held x y u v e f all still stay one other = ap status_of (one.0 ∙ sym other.0)
+same_end (Some order) held x y u v e f all still stay one other = by_ways (ends_by order held x y e one) (ends_by order held u v f other)
+  where
+    by_ways : EndsBy order held x y e → EndsBy order held u v f → status_of e ≡ status_of f
+    by_ways (carried none work) (carried no_one same) = one_end held order e f all work same
+    by_ways (unread is why) way = absurd (still (rose held x y (files_of order) why))
+    by_ways (carried none work) (unread is why) = absurd (stay (rose held u v (files_of order) why))
 
 -- so two answers to which they lead are the same
-pub same_answer : (words : List (List ℕ)) (held : List ℕ → Option (List ℕ)) (before now : List ℕ → ℕ) (found answer : Status)
-    (text other : List ℕ) → ((name : List ℕ) → IsNamed words name → IsSome (held name)) → (NamedRose words before now → ⊥) →
-    LeadsTo words held before now found text → LeadsTo words held before before answer other → found ≡ answer
-same_answer words held before now found answer text other all read found_leads leads =
-    same_Some found answer
-    (sym (leads_answer words held before now found text all read found_leads)
-    ∙ leads_answer words held before before answer other all (λ rose. omega (arith, rose.2)) leads)
+pub same_answer : (asked : Option Order) (held : Held) (before now : Counts) (found answer : Status) (text other : List ℕ) →
+    ((name : List ℕ) → Contains (names_of asked) name → IsSome (held name)) → (OneRose (names_of asked) before now → ⊥) →
+    LeadsTo asked held before now found text → LeadsTo asked held before before answer other → found ≡ answer
+same_answer asked held before now found answer text other all still found_leads leads =
+    sym (status_of-end_of found text)
+    ∙ same_end asked held before now before before (end_of found text) (end_of answer other) all still
+    (stays (names_of asked) before before (λ n. refl))
+    (outcome asked held before now found text found_leads) (outcome asked held before before answer other leads)
+    ∙ status_of-end_of answer other

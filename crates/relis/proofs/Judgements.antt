@@ -1,6 +1,6 @@
 -- What a network text is, as a search: an accepted text has one network, a refused one has one first refusal, and no text
 -- is both.
-use Rattle.std.proofs.Common.{◌≡◌, ℕ, List, Option, Some, None, Result, Ok, Err, ap, ◌∙◌}
+use Rattle.std.proofs.Common.{◌≡◌, ℕ, List, Option, Some, None, Result, Ok, Err, sym, subst, ap, ◌∙◌}
 use Rattle.rl_base.specs.declared.place.Place.{Place}
 use Rattle.rl_base.specs.declared.draft.Draft.{Draft}
 use Rattle.rl_syntax.specs.declared.refusal.SyntaxRefusal.{SyntaxRefusal}
@@ -10,6 +10,9 @@ use Rattle.rl_syntax.specs.SyntaxRefusals.{refusal_number, refusal_place}
 use Rattle.rl_syntax.proofs.Meant.{answer_to-from_means}
 use Rattle.rl_model.specs.declared.network.NetworkPlan.{NetworkPlan}
 use Rattle.rl_drafts.specs.Search.{Refusal, first_refusal}
+use Rattle.rl_model.specs.Network.{IsNetwork}
+use Rattle.rl_drafts.specs.Drafts.{network_of}
+use Rattle.rl_drafts.proofs.Networks as networks
 use Rattle.rl_drafts.proofs.Refusals.{first_refusal-found, first_refusal-accepted}
 use Rattle.relis.specs.Networks.{IsAcceptedAs, IsRefusedAs, unread, broken}
 use Rattle.relis.specs.declared.status.Status.{Status}
@@ -39,3 +42,18 @@ pub judged-refused : (text : List ℕ) (n : ℕ) (p : Place) → IsRefusedAs tex
 judged-refused text n p (unread r means) = ap judged_answer (answer_to-from_means text (Err r) means)
 judged-refused text n p (broken d m q says first) =
     judged_draft text d (Some (record { number = m; place = q })) says (first_refusal-found d (record { number = m; place = q }) first)
+
+-- an accepted text is that of a network
+pub IsNetwork-accepted : (text : List ℕ) (net : NetworkPlan) → IsAcceptedAs text net → IsNetwork net
+IsNetwork-accepted text net h =
+    subst IsNetwork (sym h.network) (networks.IsNetwork-accepted h.draft h.says.3 (first_refusal-accepted h.draft h.accepted))
+
+same_ok : (r : Result Draft SyntaxRefusal) (d e : Draft) → r ≡ Ok d → r ≡ Ok e → d ≡ e
+same_ok r d e one other = cc
+
+-- of one network
+pub same_network : (text : List ℕ) (net other : NetworkPlan) → IsAcceptedAs text net → IsAcceptedAs text other → net ≡ other
+same_network text net other h k =
+    h.network
+    ∙ ap network_of (same_ok (answer_to text) h.draft k.draft (answer_to-from_means text (Ok h.draft) h.says) (answer_to-from_means text (Ok k.draft) k.says))
+    ∙ sym k.network

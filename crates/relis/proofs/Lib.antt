@@ -1,4 +1,8 @@
 pub mod Causes
+pub mod Ends
 pub mod Faults
+pub mod Fetches
 pub mod Judgements
-pub mod TooLong
+pub mod OneEnd
+pub mod RingSize
+pub mod Schedules

@@ -1,6 +1,9 @@
 pub mod Answers
 pub mod Calls
+pub mod Commands
 pub mod Exits
 pub mod Lines
 pub mod Networks
 pub mod Orders
+pub mod Reading
+pub mod Summaries

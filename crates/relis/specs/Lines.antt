@@ -4,6 +4,8 @@ use Rattle.rl_base.specs.declared.place.Place.{Place}
 use Rattle.rl_base.specs.declared.place.Place.TheVariants as place
 use Rattle.rl_model.specs.declared.network.NetworkPlan.{NetworkPlan}
 use Rattle.rl_model.specs.ReportText.{line_of}
+use Rattle.relis.specs.declared.status.Status.{Status}
+use Rattle.relis.specs.declared.status.Status.TheVariants as status
 
 -- a key of the item at an index, as `box[3].name`
 abbrev pub item_text : List ℕ → ℕ → List ℕ → List ℕ
@@ -42,6 +44,21 @@ read_fault_line = codes "read fault\n"
 
 abbrev pub refused_line : ℕ → Place → List ℕ
 refused_line number place = line_of (codes "refused" ∷ decimal number ∷ place_text place ∷ [])
+
+abbrev pub not_safe_line : ℕ → ℕ → List ℕ
+not_safe_line line guard = codes "not safe " ++ decimal line ++ codes " " ++ decimal guard ++ codes "\n"
+
+-- the line of each status but those at which a command's own text is put, or nothing
+abbrev pub status_line : Status → List ℕ
+status_line status.Usage = usage_line
+status_line status.ReadFault = read_fault_line
+status_line (status.Refused number place) = refused_line number place
+status_line (status.NotSafe line guard) = not_safe_line line guard
+status_line _ = []
+
+-- what `audit` prints of a right report
+abbrev pub safe_line : ℕ → List ℕ
+safe_line moves = codes "safe moves " ++ decimal moves ++ codes "\n"
 
 -- what `check` prints of an accepted network
 abbrev pub accepted_line : NetworkPlan → List ℕ

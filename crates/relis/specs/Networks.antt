@@ -8,8 +8,8 @@ use Rattle.rl_syntax.specs.SyntaxRefusals.{refusal_number, refusal_place}
 use Rattle.rl_model.specs.declared.network.NetworkPlan.{NetworkPlan}
 use Rattle.rl_drafts.specs.Drafts.{network_of}
 use Rattle.rl_drafts.specs.Refusals.{IsAccepted, IsFirstRefusal}
-use Rattle.relis.specs.declared.judge.NetworkFault.{NetworkFault}
-use Rattle.relis.specs.declared.judge.NetworkFault.TheVariants as fault
+use Rattle.relis.specs.declared.status.Status.{Status}
+use Rattle.relis.specs.declared.status.Status.TheVariants as status
 
 -- the text says a draft that breaks no rule, and the network is the draft's
 pub record IsAcceptedAs (text : List ℕ) (net : NetworkPlan) : Type 0 where
@@ -23,7 +23,8 @@ pub data IsRefusedAs (text : List ℕ) : ℕ → Place → Type 0 where
   unread : (r : SyntaxRefusal) → Means text (Err r) → IsRefusedAs text (refusal_number r) (refusal_place r)
   broken : (d : Draft) (n : ℕ) (p : Place) → Means text (Ok d) → IsFirstRefusal d n p → IsRefusedAs text n p
 
--- the fault is the first refusal of the text; want of memory says nothing of it
-abbrev pub IsFaultOf : List ℕ → NetworkFault → Type 0
-IsFaultOf text (fault.Refused number place) = IsRefusedAs text number place
-IsFaultOf text fault.NoMemory = Unit {0}
+-- the status is that of the first refusal of the text; want of memory says nothing of it
+abbrev pub IsRefusalOf : List ℕ → Status → Type 0
+IsRefusalOf text (status.Refused number place) = IsRefusedAs text number place
+IsRefusalOf text status.NoMemory = Unit {0}
+IsRefusalOf text answer = ⊥

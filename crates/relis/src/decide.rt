@@ -1,18 +1,19 @@
-ghost use Rattle.std.specs.Prelude.{◌≡◌, ◌≢◌, ℕ, ◌≤◌, List, Some, IfOk};
-ghost use Rattle.relis.specs.Answers.{IsTextOf, IsAnswerOn, LeadsTo, IsNamed};
-ghost use Rattle.relis.specs.Orders.{order_of, network_file, IsWithinLimits};
+ghost use Rattle.std.specs.Prelude.{◌≡◌, ◌≢◌, ℕ, ◌≤◌, List, Some, IfOk, MatchResult};
+ghost use Rattle.rl_cli.specs.Limits.{IsWithinLimits};
+ghost use Rattle.rl_cli.specs.Orders.{order_of};
+ghost use Rattle.relis.specs.Answers.{IsOutcome, LeadsTo, UnlessMemory, names_of};
+ghost use Rattle.relis.specs.Reading.{FetchesOf};
+ghost use Rattle.relis.specs.Orders.{plain, plain_order_of};
 
-use crate::judge::{NetworkFault, judge};
-use crate::lines::{accepted, read_fault, refused, usage};
-use crate::orders::{Order, order_of};
+use crate::audit::audit;
+use crate::check::{check, tables};
+use crate::drive::{drive_rounds, drive_schedule};
+use crate::lines::line_of;
+use crate::made::make;
 use crate::status::Status;
-use rl_base::limits::{DEFAULT_TRIES, MAX_NETWORK_BYTES};
-use rl_base::{Args, NoMemory, Place};
-use rl_direct::drive;
-use rl_net::Network;
-use rl_outside::{Fetch, Files};
-use rl_report::report_text;
-use rl_tables::{compile, tables_text};
+use rl_base::{Args, NoMemory};
+use rl_cli::{CliFault, Order, parse};
+use rl_outside::Files;
 use rl_text::Out;
 use std::alloc::Global;
 
@@ -23,81 +24,61 @@ pub struct Decision {
     pub text: Out,
 }
 
-/// The text of an order on an accepted network.
-fn text_of(alloc: Global, order: &Order, net: &Network) -> Result<Out, NoMemory>
+/// Carries an order out.
+fn carry_out<F: Files>(alloc: Global, files: &mut F, order: &Order) -> Result<Out, Status>
     requires { IsWithinLimits order.now }
-    ensures { IfOk result (IsTextOf order.now net.now) }
+    ensures outcome { UnlessMemory
+        (IsOutcome (plain order.now) (F.held files.old) (F.faults files.old) (F.faults files.new)) result }
+    ensures fetches { FetchesOf (names_of (plain order.now))
+        (F.held files.old) (F.held files.new) (F.faults files.old) (F.faults files.new) }
 {
     match order {
-        Order::Check { .. } => accepted(alloc, net),
-        Order::Tables { .. } => {
-            let line = compile(alloc, net)?;
-            tables_text(alloc, net, &line)
+        Order::Check { net } => check(alloc, files, net.as_str()),
+        Order::Tables { net } => tables(alloc, files, net.as_str()),
+        Order::Rounds { net, rounds, tries } => {
+            drive_rounds(alloc, files, net.as_str(), *rounds, *tries)
         }
-        Order::Drive { rounds, .. } => {
-            let report = drive(alloc, net, *rounds, DEFAULT_TRIES)?;
-            report_text(alloc, net, &report)
-        }
+        Order::Drive {
+            net,
+            schedule,
+            tries,
+        } => { drive_schedule(alloc, files, net.as_str(), schedule.as_str(), *tries) }
+        Order::Audit { net, report } => audit(alloc, files, net.as_str(), report.as_str()),
+        Order::Make { n } => Ok(make(alloc, *n)?),
+        Order::Run { .. } => Err(Status::Usage),
     }
 }
 
-/// Carries the order out on a network text.
-fn answer_on(alloc: Global, order: &Order, bytes: &[u8]) -> Result<Decision, NoMemory>
-    requires { IsWithinLimits order.now }
-    ensures { IfOk result (λ d. IsAnswerOn order.now bytes.now d.status d.text) }
+/// Does what the words ask for, but puts nothing.
+fn outcome_of<F: Files>(alloc: Global, words: &Args, files: &mut F) -> Result<Out, Status>
+    ensures outcome { UnlessMemory (IsOutcome (plain_order_of words.now)
+        (F.held files.old) (F.faults files.old) (F.faults files.new)) result }
+    ensures fetches { FetchesOf (names_of (plain_order_of words.now))
+        (F.held files.old) (F.held files.new) (F.faults files.old) (F.faults files.new) }
 {
-    match judge(alloc, bytes) {
-        Ok(net) => Ok(Decision {
-            status: Status::Done,
-            text: text_of(alloc, order, &net)?,
-        }),
-        Err(NetworkFault::Refused { number, place }) => Ok(Decision {
-            status: Status::Refused { number, place },
-            text: refused(alloc, number, place)?,
-        }),
-        Err(NetworkFault::NoMemory) => Err(NoMemory),
-    }
-}
-
-/// Fetches the network text and carries the order out on it.
-fn carry_out<F: Files>(alloc: Global, order: &Order, files: &mut F) -> Result<Decision, NoMemory>
-    requires { IsWithinLimits order.now }
-    ensures leads { IfOk result (λ d. (words : List (List ℕ)) → order_of words ≡ Some order.now →
-        LeadsTo words (F.held files.old) (F.faults files.old) (F.faults files.new) d.status d.text) }
-    ensures files_stay { (n : List ℕ) → F.held files.new n ≡ F.held files.old n }
-    ensures others { (n : List ℕ) → n ≢ network_file order.now → F.faults files.new n ≡ F.faults files.old n }
-    ensures later { (n : List ℕ) → F.faults files.old n ≤ F.faults files.new n }
-{
-    match files.fetch(alloc, order.net(), MAX_NETWORK_BYTES) {
-        Ok(bytes) => answer_on(alloc, order, bytes.as_slice()),
-        Err(Fetch::Failed) => Ok(Decision {
-            status: Status::ReadFault,
-            text: read_fault(alloc)?,
-        }),
-        Err(Fetch::TooLong) => Ok(Decision {
-            status: Status::Refused {
-                number: 1,
-                place: Place::None,
-            },
-            text: refused(alloc, 1, Place::None)?,
-        }),
-        Err(Fetch::NoMemory) => Err(NoMemory),
+    match parse(alloc, words) {
+        Ok(order) => carry_out(alloc, files, &order),
+        Err(CliFault::Usage) => Err(Status::Usage),
+        Err(CliFault::NoMemory) => Err(Status::NoMemory),
     }
 }
 
 /// What the words lead to, with nothing put yet.
 pub fn decide<F: Files>(alloc: Global, words: &Args, files: &mut F) -> Result<Decision, NoMemory>
-    ensures leads { IfOk result (λ d.
-        LeadsTo words.now (F.held files.old) (F.faults files.old) (F.faults files.new) d.status d.text) }
-    ensures files_stay { (n : List ℕ) → F.held files.new n ≡ F.held files.old n }
-    ensures others { (n : List ℕ) → ¬ IsNamed words.now n → F.faults files.new n ≡ F.faults files.old n }
-    ensures later { (n : List ℕ) → F.faults files.old n ≤ F.faults files.new n }
+    ensures leads { IfOk result (λ d. LeadsTo (plain_order_of words.now)
+        (F.held files.old) (F.faults files.old) (F.faults files.new) d.status d.text) }
+    ensures fetches { FetchesOf (names_of (plain_order_of words.now))
+        (F.held files.old) (F.held files.new) (F.faults files.old) (F.faults files.new) }
 {
-    match order_of(alloc, words)? {
-        Some(order) => carry_out(alloc, &order, files),
-        None => Ok(Decision {
-            status: Status::Usage,
-            text: usage(alloc)?,
+    match outcome_of(alloc, words, files) {
+        Ok(text) => Ok(Decision {
+            status: Status::Done,
+            text,
+        }),
+        Err(Status::NoMemory) => Err(NoMemory),
+        Err(status) => Ok(Decision {
+            status,
+            text: line_of(alloc, status)?,
         }),
     }
 }

@@ -1,7 +1,8 @@
 ghost use Rattle.std.specs.Prelude.{◌≡◌, ◌++◌, OnOk, IfOk, decimal};
 ghost use Rattle.rl_model.specs.Network.{IsNetwork};
-ghost use Rattle.relis.specs.Lines.{place_text, item_text, nested_text, usage_line, read_fault_line, refused_line, accepted_line};
+ghost use Rattle.relis.specs.Lines.{place_text, item_text, nested_text, usage_line, read_fault_line, refused_line, not_safe_line, status_line, accepted_line, safe_line};
 
+use crate::status::Status;
 use rl_base::{NoMemory, Place};
 use rl_net::Network;
 use rl_text::Out;
@@ -71,19 +72,19 @@ fn text_of(alloc: Global, bytes: &[u8]) -> Result<Out, NoMemory>
     Ok(out)
 }
 
-pub fn usage(alloc: Global) -> Result<Out, NoMemory>
+fn usage(alloc: Global) -> Result<Out, NoMemory>
     ensures { IfOk result (λ out. out ≡ usage_line) }
 {
     text_of(alloc, b"usage: relis COMMAND WORDS\n")
 }
 
-pub fn read_fault(alloc: Global) -> Result<Out, NoMemory>
+fn read_fault(alloc: Global) -> Result<Out, NoMemory>
     ensures { IfOk result (λ out. out ≡ read_fault_line) }
 {
     text_of(alloc, b"read fault\n")
 }
 
-pub fn refused(alloc: Global, number: u32, place: Place) -> Result<Out, NoMemory>
+fn refused(alloc: Global, number: u32, place: Place) -> Result<Out, NoMemory>
     ensures { IfOk result (λ out. out ≡ refused_line number place) }
 {
     let mut out = Out::new(alloc);
@@ -93,6 +94,29 @@ pub fn refused(alloc: Global, number: u32, place: Place) -> Result<Out, NoMemory
     put_place(&mut out, place)?;
     out.text(b"\n")?;
     Ok(out)
+}
+
+fn not_safe(alloc: Global, line: u32, guard: u32) -> Result<Out, NoMemory>
+    ensures { IfOk result (λ out. out ≡ not_safe_line line guard) }
+{
+    let mut out = Out::new(alloc);
+    put_count(&mut out, b"not safe ", line)?;
+    put_count(&mut out, b" ", guard)?;
+    out.text(b"\n")?;
+    Ok(out)
+}
+
+/// The line of a status, which is empty where a command's own text is put, or nothing.
+pub fn line_of(alloc: Global, status: Status) -> Result<Out, NoMemory>
+    ensures { IfOk result (λ out. out ≡ status_line status) }
+{
+    match status {
+        Status::Usage => usage(alloc),
+        Status::ReadFault => read_fault(alloc),
+        Status::Refused { number, place } => refused(alloc, number, place),
+        Status::NotSafe { line, guard } => not_safe(alloc, line, guard),
+        Status::Done | Status::WriteFault | Status::NoMemory => Ok(Out::new(alloc)),
+    }
 }
 
 fn put_count(out: &mut Out, words: &[u8], count: u32) -> Result<(), NoMemory>
@@ -113,6 +137,16 @@ pub fn accepted(alloc: Global, net: &Network) -> Result<Out, NoMemory>
     put_count(&mut out, b" boxes ", layout.boxes)?;
     put_count(&mut out, b" trains ", layout.trains)?;
     put_count(&mut out, b" nodes ", layout.nodes())?;
+    out.text(b"\n")?;
+    Ok(out)
+}
+
+/// What `audit` prints of a right report.
+pub fn safe(alloc: Global, moves: u32) -> Result<Out, NoMemory>
+    ensures { IfOk result (λ out. out ≡ safe_line moves) }
+{
+    let mut out = Out::new(alloc);
+    put_count(&mut out, b"safe moves ", moves)?;
     out.text(b"\n")?;
     Ok(out)
 }

@@ -6,11 +6,15 @@
 //! which number the program ends.
 #![tactic(auto)]
 
+mod audit;
+mod check;
 mod decide;
+mod drive;
 mod exit;
 mod judge;
 mod lines;
-mod orders;
+mod made;
+mod reading;
 mod status;
 #[cfg(test)]
 mod tests;

@@ -1,6 +1,6 @@
 ghost use Rattle.std.specs.Prelude.{◌≡◌};
 
-use rl_base::Place;
+use rl_base::{NoMemory, Place};
 
 /// How a call of the program ends.
 #[derive(Clone, Copy, Debug, PartialEq, Eq)]
@@ -17,6 +17,8 @@ pub enum Status {
     WriteFault,
     /// Memory ran out, and nothing was written.
     NoMemory,
+    /// A report was audited and isn't right: on this line a guard fails, first the one of this number.
+    NotSafe { line: u32, guard: u32 },
 }
 
 impl Status {
@@ -33,6 +35,17 @@ impl Status {
             Status::Refused { .. } => 3,
             Status::WriteFault => 4,
             Status::NoMemory => 6,
+            Status::NotSafe { .. } => 7,
         }
+    }
+}
+
+impl From<NoMemory> for Status {
+    ghost use Rattle.relis.specs.declared.status.Status.TheVariants as statuses;
+
+    ghost from_gives = { λ _ e. e ≡ statuses.NoMemory };
+
+    fn from(_error: NoMemory) -> Status {
+        Status::NoMemory
     }
 }

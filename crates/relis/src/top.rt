@@ -1,4 +1,5 @@
 ghost use Rattle.relis.specs.Calls.{IsCall, outside};
+ghost use Rattle.relis.specs.Orders.{plain_order_of};
 
 use crate::decide::decide;
 use crate::status::Status;
@@ -16,7 +17,7 @@ pub fn relis_plain<F: Files, K: Sink>(
     files: &mut F,
     out: &mut K,
 ) -> Status
-    ensures { IsCall words.now
+    ensures { IsCall (plain_order_of words.now)
         (outside (F.held files.old) (F.faults files.old) (K.written out.old) (K.faults out.old))
         (outside (F.held files.new) (F.faults files.new) (K.written out.new) (K.faults out.new))
         result }
@@ -40,7 +41,7 @@ pub fn relis<R: Threads + Wait + Sync, F: Files, K: Sink, G: Gate>(
     out: &mut K,
     gate: &G,
 ) -> Status
-    ensures { IsCall words.now
+    ensures { IsCall (plain_order_of words.now)
         (outside (F.held files.old) (F.faults files.old) (K.written out.old) (K.faults out.old))
         (outside (F.held files.new) (F.faults files.new) (K.written out.new) (K.faults out.new))
         result }

@@ -6,3 +6,4 @@ pub mod Forms
 pub mod FormReads
 pub mod Numbers
 pub mod Laws
+pub mod LimitsOf

@@ -68,7 +68,7 @@ option_fits (f ∷ flags) flag p e named = elim (either _ _ e) [
   | inr h ↦ option_fits flags flag p h named
 ]
 
-values_fit : (flags : List Flag) (flag : Flag) (given : List (Text × Text)) → list_all (is_option_of flags) given ≡ true
+pub values_fit : (flags : List Flag) (flag : Flag) (given : List (Text × Text)) → list_all (is_option_of flags) given ≡ true
     → IfSome (lookup (name_of flag) given) (λ w. fits (item_of flag) w ≡ true)
 values_fit flags flag [] e = tt
 values_fit flags flag (p ∷ rest) e =

@@ -3,3 +3,4 @@ pub mod Table
 pub mod Written
 pub mod Orders
 pub mod Apps
+pub mod Limits

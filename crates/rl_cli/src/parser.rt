@@ -1,6 +1,7 @@
 ghost use Rattle.std.specs.Prelude.{◌≡◌, ◌<◌, ◌↔◌, length, drop, IfOk, IsErrOf, Some};
 ghost use Rattle.rl_cli.specs.Orders.{Answers, order_named, order_of};
 ghost use Rattle.rl_cli.specs.Written.{IsWritten};
+ghost use Rattle.rl_cli.specs.Limits.{IsWithinLimits};
 ghost use Rattle.rl_cli.specs.declared.order.Order.{Order};
 
 use crate::fault::CliFault;
@@ -48,6 +49,9 @@ pub fn parse(alloc: Global, words: &Args) -> Result<Order, CliFault>
 
     // Usage is the answer to all words that are written in no form, whatever memory is left, and to no others.
     ensures usage { IsErrOf result CliFault.Usage ↔ ((order : Order) → ¬ IsWritten words.now order) }
+
+    // The numbers of an order are within the limits of the table.
+    ensures limits { IfOk result IsWithinLimits }
 {
     order_in_words(alloc, words.as_slice())
 }
