@@ -1,3 +1,4 @@
+pub mod Audited
 pub mod Causes
 pub mod Ends
 pub mod Faults

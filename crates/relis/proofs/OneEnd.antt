@@ -1,32 +1,28 @@
 -- What the files tell leads to one answer.
 use Rattle.std.proofs.Common.{◌≡◌, ◌∙◌, ◌*◌, ◌<◌, ◌≤◌, arith, ℕ, List, [], ◌∷◌, Option, Some, None, IfSome, IsSome, Result, Ok, Err, Contains, refl, sym, ap, subst}
-use Rattle.std.proofs.lemmas.Option.{same_Some}
-use Rattle.rl_base.specs.declared.draft.Draft.{Draft}
 use Rattle.rl_base.specs.declared.limits.TheConstants.{MAX_TURNS}
 use Rattle.rl_base.specs.declared.place.Place.{Place}
 use Rattle.rl_base.specs.declared.place.Place.TheVariants.{ReportLine}
 use Rattle.rl_model.specs.declared.network.NetworkPlan.{NetworkPlan}
 use Rattle.rl_model.specs.Network.{IsNetwork}
-use Rattle.rl_report.specs.Grammar.{IsFirstFault, IsLong}
+use Rattle.rl_report.specs.Grammar.{IsLong}
 use Rattle.rl_report.proofs.OneReading.{one_report, no_fault, one_fault}
 use Rattle.rl_audit.specs.declared.verdict.Verdict.{Verdict}
 use Rattle.rl_audit.specs.declared.verdict.Verdict.TheVariants.{Safe, Bad}
 use Rattle.rl_audit.specs.Verdicts.{IsVerdict, IsVerdictOn}
 use Rattle.rl_audit.proofs.OneVerdict.{only_verdict}
-use Rattle.rl_schedule.specs.declared.refusal.ScheduleRefusal.{ScheduleRefusal}
 use Rattle.rl_schedule.specs.declared.schedules.Item.{Item}
 use Rattle.rl_schedule.specs.Readings.{nodes_of, schedule_of}
 use Rattle.rl_schedule.specs.Refusals.{refusal_number, refusal_place}
 use Rattle.rl_cli.specs.declared.order.Order.{Order}
 use Rattle.rl_cli.specs.declared.order.Order.TheVariants.{Check, Tables, Rounds, Drive, Run, Audit, Make}
 use Rattle.relis.specs.Answers.{Held, AreTold, IsCarriedOut}
-use Rattle.relis.specs.Commands.{End, ChecksTo, PrintsTo, DrivesRoundsTo, DrivesScheduleTo, AuditsTo, IsReportRefusal, faulty, long, MakesTo, IsWork, IsWorkAlone, IsWorkOn, IsWorkOnText, refused, accepted}
-use Rattle.relis.specs.Networks.{IsAcceptedAs, IsRefusedAs}
+use Rattle.relis.specs.Commands.{End, ChecksTo, PrintsTo, DrivesRoundsTo, DrivesScheduleTo, AuditsTo, IsReportRefusal, faulty, long, MakesTo, IsWork, IsWorkAlone, IsWorkOn, refused, accepted}
 use Rattle.relis.specs.Orders.{files_of}
 use Rattle.relis.specs.declared.status.Status.{Status}
 use Rattle.relis.specs.declared.status.Status.TheVariants as status
 use Rattle.relis.proofs.Fetches.{contains_first, contains_later}
-use Rattle.relis.proofs.Judgements.{judged, judged-accepted, judged-refused, IsNetwork-accepted, same_network}
+use Rattle.relis.proofs.Judgements.{judged-accepted, judged-refused, IsNetwork-accepted, same_network}
 
 -- the status of an end
 abbrev pub status_of : End → Status
@@ -34,13 +30,13 @@ status_of (Ok text) = status.Done
 status_of (Err answer) = answer
 
 -- a report has one verdict
-same_verdict : (net : NetworkPlan) (bytes : List ℕ) (v w : Verdict) → IsNetwork net → IsVerdictOn net bytes v → IsVerdictOn net bytes w → v ≡ w
+pub same_verdict : (net : NetworkPlan) (bytes : List ℕ) (v w : Verdict) → IsNetwork net → IsVerdictOn net bytes v → IsVerdictOn net bytes w → v ≡ w
 same_verdict net bytes v w is one other =
     let same = one_report net bytes one.report other.report is one.spelled other.spelled in
     only_verdict net other.report v w (subst (λ r. IsVerdict net r v) same one.verdict_is) other.verdict_is
 
 -- and a report that is refused has none
-no_verdict : (net : NetworkPlan) (bytes : List ℕ) (v : Verdict) (n : ℕ) (p : Place) → IsVerdictOn net bytes v → (IsLong net bytes → ⊥) →
+pub no_verdict : (net : NetworkPlan) (bytes : List ℕ) (v : Verdict) (n : ℕ) (p : Place) → IsVerdictOn net bytes v → (IsLong net bytes → ⊥) →
     IsReportRefusal net bytes n p → ⊥
 no_verdict net bytes v n p one short (faulty k fits fault) = no_fault net bytes one.report k one.spelled fault
 no_verdict net bytes v n p one short (long is) = short is

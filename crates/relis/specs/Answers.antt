@@ -1,5 +1,5 @@
 -- What each answer of the program says of the order, of the files and of the text that goes with it.
-use Rattle.std.specs.Prelude.{◌≡◌, ℕ, List, [], ◌∷◌, Contains, Option, None, Some, IfSome, Result, Ok, Err, ◌⊎◌}
+use Rattle.std.specs.Prelude.{◌≡◌, ℕ, List, [], ◌∷◌, Contains, Option, None, Some, IfSome, Ok, Err, ◌⊎◌}
 use Rattle.rl_base.specs.declared.place.Place.{Place}
 use Rattle.rl_model.specs.declared.network.NetworkPlan.{NetworkPlan}
 use Rattle.rl_outside.specs.Causes.{Rose}

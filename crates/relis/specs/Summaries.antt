@@ -3,7 +3,6 @@ use Rattle.std.specs.Prelude.{ℕ, Bool, true, false, List, ◌++◌, length, co
 use Rattle.rl_model.specs.declared.moves.Move.{Move}
 use Rattle.rl_model.specs.declared.moves.Move.TheVariants.{Refuse, Bar}
 use Rattle.rl_model.specs.declared.network.NetworkPlan.{NetworkPlan}
-use Rattle.rl_model.specs.declared.report.Fate.{Fate}
 use Rattle.rl_model.specs.declared.report.Fate.TheVariants.{Arrived, Spent, Underway}
 use Rattle.rl_model.specs.declared.report.Outcome.{Outcome}
 use Rattle.rl_model.specs.declared.report.Report.{Report}

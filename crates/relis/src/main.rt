@@ -12,6 +12,7 @@ mod decide;
 mod drive;
 mod exit;
 mod judge;
+pub mod laws;
 mod lines;
 mod made;
 mod reading;
