@@ -28,7 +28,8 @@ only_safe net tries nodes report (Ok text) is driven few audited =
     let same = same_verdict net text_of (Safe audited.1.0) (Safe (length report.moves)) is audited.1.1 (safe_verdict net tries nodes report driven) in
     ap (λ (t : List ℕ). Ok t) (audited.1.2 ∙ ap safe_line (same_safe audited.1.0 (length report.moves) same))
 only_safe net tries nodes report (Err (status.NotSafe line guard)) is driven few audited =
-    absurd (let same = same_verdict net (report_text net report) (Bad line guard) (Safe (length report.moves)) is audited.1 (safe_verdict net tries nodes report driven) in cc)
+    absurd (let same = same_verdict net (report_text net report) (Bad line guard) (Safe (length report.moves)) is audited.1
+    (safe_verdict net tries nodes report driven) in cc)
 only_safe net tries nodes report (Err (status.Refused n p)) is driven few audited =
     absurd (no_verdict net (report_text net report) (Safe (length report.moves)) n p (safe_verdict net tries nodes report driven)
     (report_not_long net (report_text net report) report is (record { of = driven.formed; spelled = refl }) few) audited)

@@ -86,7 +86,8 @@ MayRefuse net text refusal = schedule_of net text ≡ Err refusal
 -- or that of the turns of a schedule, unless that is refused
 abbrev pub DrivesScheduleTo : NetworkPlan → (schedule : List ℕ) → (tries : ℕ) → End → Type 0
 DrivesScheduleTo net schedule tries (Ok text) =
-    (items : List Item) × (schedule_of net schedule ≡ Ok items) × IsDriveText net tries (turns_of (nodes_of net) items) text
+    (items : List Item) × (schedule_of net schedule ≡ Ok items)
+    × IsDriveText net tries (turns_of (nodes_of net) items) text
 DrivesScheduleTo net schedule tries (Err (status.Refused number place)) =
     (refusal : ScheduleRefusal) × (schedule_of net schedule ≡ Err refusal)
     × (number ≡ refusal_number refusal) × (place ≡ refusal_place refusal)
@@ -109,7 +110,8 @@ AuditsTo net report (Err answer) = ⊥
 -- the text is the summary of the report of 3,900 rounds on the network of the ring of n stations
 pub record IsMakeText (n : ℕ) (text : List ℕ) : Type 0 where
   pub report : Report
-  pub driven : IsDrivenReport (network_of (ring n)) DEFAULT_TRIES (nodes_in_rounds (network_of (ring n)) MADE_ROUNDS) report
+  pub driven : IsDrivenReport (network_of (ring n)) DEFAULT_TRIES
+      (nodes_in_rounds (network_of (ring n)) MADE_ROUNDS) report
   pub text_is : text ≡ make_text n (network_of (ring n)) report
 
 -- `make` prints it

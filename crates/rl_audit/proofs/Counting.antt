@@ -47,7 +47,8 @@ there [] i h = absurd (omega arith)
 there (x ∷ xs) zero h = (x, refl)
 there (x ∷ xs) (suc i) h = there xs i (omega arith)
 
-pub counted_leave : (moves : List Move) (counts new : List Count) (t : TrainId) (s : SegId) → t.0 < length counts → length moves + 1 < 2 ^ 32 → AreCounts moves counts
+pub counted_leave : (moves : List Move) (counts new : List Count) (t : TrainId) (s : SegId) → t.0 < length counts → length moves + 1 < 2 ^ 32
+    → AreCounts moves counts
     → ((x : Count) → slice_get counts t.0 ≡ Some x → x.made + 1 < 2 ^ 32 → new ≡ slice_set counts t.0 (record x { made = x.made + 1 }))
     → AreCounts (moves ++ Leave t s ∷ []) new
 counted_leave moves counts new t s within few are added =
@@ -57,14 +58,19 @@ counted_leave moves counts new t s within few are added =
     let low = count_by-le-length (is_leave t.0) moves in
     let written = added found.0 found.1 (omega arith) in
     rw written
-    (each_but (λ u x. (x.made ≡ made_in (moves ++ Leave t s ∷ []) u) × (x.refused ≡ refused_in (moves ++ Leave t s ∷ []) u)) counts t.0 (record found.0 { made = found.0.made + 1 })
+    (each_but (λ u x. (x.made ≡ made_in (moves ++ Leave t s ∷ []) u) × (x.refused ≡ refused_in (moves ++ Leave t s ∷ []) u)) counts t.0
+    (record found.0 { made = found.0.made + 1 })
     (λ u x apart at.
     let before = are u x at in
-    (before.0 ∙ sym (count_no (is_leave u) moves (Leave t s) (apart_false t.0 u apart)), before.1 ∙ sym (count_no (is_refusal u) moves (Leave t s) refl)))
-    (ap (λ n. n + 1) here.0 ∙ sym (count_yes (is_leave t.0) moves (Leave t s) (same_true t.0)), here.1 ∙ sym (count_no (is_refusal t.0) moves (Leave t s) refl)))
+    (before.0 ∙ sym (count_no (is_leave u) moves (Leave t s) (apart_false t.0 u apart)), before.1 ∙ sym (count_no (is_refusal u) moves (Leave t s) refl))) (
+      ap (λ n. n + 1) here.0 ∙ sym (count_yes (is_leave t.0) moves (Leave t s) (same_true t.0)),
+      here.1
+          ∙ sym (count_no (is_refusal t.0) moves (Leave t s) refl),
+    ))
 
 -- a move that is a refusal of train t, and no Leave
-counted_refusal : (moves : List Move) (counts new : List Count) (t : TrainId) (m : Move) → ((u : ℕ) → is_refusal u m ≡ (t.0 == u)) → ((u : ℕ) → is_leave u m ≡ false)
+counted_refusal : (moves : List Move) (counts new : List Count) (t : TrainId) (m : Move) → ((u : ℕ) → is_refusal u m ≡ (t.0 == u))
+    → ((u : ℕ) → is_leave u m ≡ false)
     → t.0 < length counts → length moves + 1 < 2 ^ 32 → AreCounts moves counts
     → ((x : Count) → slice_get counts t.0 ≡ Some x → x.refused + 1 < 2 ^ 32 → new ≡ slice_set counts t.0 (record x { refused = x.refused + 1 }))
     → AreCounts (moves ++ m ∷ []) new
@@ -75,18 +81,24 @@ counted_refusal moves counts new t m refuses leaves within few are added =
     let low = count_by-le-length (is_refusal t.0) moves in
     let written = added found.0 found.1 (omega arith) in
     rw written
-    (each_but (λ u x. (x.made ≡ made_in (moves ++ m ∷ []) u) × (x.refused ≡ refused_in (moves ++ m ∷ []) u)) counts t.0 (record found.0 { refused = found.0.refused + 1 })
+    (each_but (λ u x. (x.made ≡ made_in (moves ++ m ∷ []) u) × (x.refused ≡ refused_in (moves ++ m ∷ []) u)) counts t.0
+    (record found.0 { refused = found.0.refused + 1 })
     (λ u x apart at.
     let before = are u x at in
-    (before.0 ∙ sym (count_no (is_leave u) moves m (leaves u)), before.1 ∙ sym (count_no (is_refusal u) moves m (refuses u ∙ apart_false t.0 u apart))))
-    (here.0 ∙ sym (count_no (is_leave t.0) moves m (leaves t.0)), ap (λ n. n + 1) here.1 ∙ sym (count_yes (is_refusal t.0) moves m (refuses t.0 ∙ same_true t.0))))
+    (before.0 ∙ sym (count_no (is_leave u) moves m (leaves u)), before.1 ∙ sym (count_no (is_refusal u) moves m (refuses u ∙ apart_false t.0 u apart)))) (
+      here.0 ∙ sym (count_no (is_leave t.0) moves m (leaves t.0)),
+      ap (λ n. n + 1) here.1
+          ∙ sym (count_yes (is_refusal t.0) moves m (refuses t.0 ∙ same_true t.0)),
+    ))
 
-pub counted_refuse : (moves : List Move) (counts new : List Count) (t : TrainId) (s : SegId) (b : BoxId) (v : TrainId) → t.0 < length counts → length moves + 1 < 2 ^ 32 → AreCounts moves counts
+pub counted_refuse : (moves : List Move) (counts new : List Count) (t : TrainId) (s : SegId) (b : BoxId) (v : TrainId) → t.0 < length counts
+    → length moves + 1 < 2 ^ 32 → AreCounts moves counts
     → ((x : Count) → slice_get counts t.0 ≡ Some x → x.refused + 1 < 2 ^ 32 → new ≡ slice_set counts t.0 (record x { refused = x.refused + 1 }))
     → AreCounts (moves ++ Refuse t s b v ∷ []) new
 counted_refuse moves counts new t s b v = counted_refusal moves counts new t (Refuse t s b v) (λ u. refl) (λ u. refl)
 
-pub counted_bar : (moves : List Move) (counts new : List Count) (t : TrainId) (b : BoxId) (v : TrainId) → t.0 < length counts → length moves + 1 < 2 ^ 32 → AreCounts moves counts
+pub counted_bar : (moves : List Move) (counts new : List Count) (t : TrainId) (b : BoxId) (v : TrainId) → t.0 < length counts → length moves + 1 < 2 ^ 32
+    → AreCounts moves counts
     → ((x : Count) → slice_get counts t.0 ≡ Some x → x.refused + 1 < 2 ^ 32 → new ≡ slice_set counts t.0 (record x { refused = x.refused + 1 }))
     → AreCounts (moves ++ Bar t b v ∷ []) new
 counted_bar moves counts new t b v = counted_refusal moves counts new t (Bar t b v) (λ u. refl) (λ u. refl)

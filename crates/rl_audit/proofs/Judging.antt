@@ -22,7 +22,8 @@ use Rattle.rl_audit.specs.Verdicts.{IsFirstBadMove, IsFirstBadOutcome, IsVerdict
 use Rattle.rl_audit.specs.Judging.{IsGood, HasJudged, HasJudgedTrains, OutcomeTested, VerdictIs}
 use Rattle.rl_audit.proofs.Counting.{there}
 
-guarded_more : (net : NetworkPlan) (w : World) (moves : List Move) (m : Move) → GuardedFrom net w moves → AllHold (guards net (fold after w moves) m) → GuardedFrom net w (moves ++ m ∷ [])
+guarded_more : (net : NetworkPlan) (w : World) (moves : List Move) (m : Move) → GuardedFrom net w moves → AllHold (guards net (fold after w moves) m)
+    → GuardedFrom net w (moves ++ m ∷ [])
 guarded_more net w [] m before here = (here, tt)
 guarded_more net w (x ∷ moves) m before here = (before.0, guarded_more net (after w x) moves m before.1 here)
 
@@ -30,7 +31,8 @@ one_longer : {A : Type 0} (xs : List A) (y : A) → length (xs ++ y ∷ []) ≡ 
 one_longer xs y = length-append xs (y ∷ [])
 
 -- a guard that failed first still does when more is read
-still_bad : (net : NetworkPlan) (moves : List Move) (m : Move) (line number : ℕ) → IsFirstBadMove net moves line number → IsFirstBadMove net (moves ++ m ∷ []) line number
+still_bad : (net : NetworkPlan) (moves : List Move) (m : Move) (line number : ℕ) → IsFirstBadMove net moves line number
+    → IsFirstBadMove net (moves ++ m ∷ []) line number
 still_bad net moves m line number bad =
     record {
       before = bad.before;
@@ -110,7 +112,8 @@ move_failed net moves m old new line number next fine failure place fails world 
     }
 
 -- behind the moves no outcome was read yet
-pub no_trains_yet : (net : NetworkPlan) (tries : ℕ) (moves : List Move) (j : Judge) → HasJudged net moves j → HasJudgedTrains net (record { tries = tries; moves = moves; outcomes = [] }) j
+pub no_trains_yet : (net : NetworkPlan) (tries : ℕ) (moves : List Move) (j : Judge) → HasJudged net moves j
+    → HasJudgedTrains net (record { tries = tries; moves = moves; outcomes = [] }) j
 no_trains_yet net tries moves j judged =
     record {
       fits = judged.fits;
@@ -167,16 +170,21 @@ train_on net report o j failed judged =
     }
 
 -- the counted numbers of a train and its fate, in the words of the world and the counts, or in those of the moves
-same_guards : (net : NetworkPlan) (tries : ℕ) (moves : List Move) (t : ℕ) (o : Outcome) (j : Judge) (x : Count) → IsGood net moves j.world j.counts.items → slice_get j.counts.items t ≡ Some x
-    → guard 25 ((o.made ≡ x.made) × (o.refused ≡ x.refused)) (guard 26 (FateFits net tries (world_of net j.world) t o.made o.refused o.fate) done) ≡ outcome_guards net tries moves t o
+same_guards : (net : NetworkPlan) (tries : ℕ) (moves : List Move) (t : ℕ) (o : Outcome) (j : Judge) (x : Count) → IsGood net moves j.world j.counts.items
+    → slice_get j.counts.items t ≡ Some x
+    → guard 25 ((o.made ≡ x.made) × (o.refused ≡ x.refused)) (guard 26 (FateFits net tries (world_of net j.world) t o.made o.refused o.fate) done)
+    ≡ outcome_guards net tries moves t o
 same_guards net tries moves t o j x good at =
     let counts = good.counted t x at in
     ap (λ n. guard 25 ((o.made ≡ n) × (o.refused ≡ x.refused)) (guard 26 (FateFits net tries (world_of net j.world) t o.made o.refused o.fate) done)) counts.0
-    ∙ ap (λ n. guard 25 ((o.made ≡ made_in moves t) × (o.refused ≡ n)) (guard 26 (FateFits net tries (world_of net j.world) t o.made o.refused o.fate) done)) counts.1
-    ∙ ap (λ w. guard 25 ((o.made ≡ made_in moves t) × (o.refused ≡ refused_in moves t)) (guard 26 (FateFits net tries w t o.made o.refused o.fate) done)) good.world
+    ∙ ap (λ n. guard 25 ((o.made ≡ made_in moves t) × (o.refused ≡ n)) (guard 26 (FateFits net tries (world_of net j.world) t o.made o.refused o.fate) done))
+    counts.1
+    ∙ ap (λ w. guard 25 ((o.made ≡ made_in moves t) × (o.refused ≡ refused_in moves t)) (guard 26 (FateFits net tries w t o.made o.refused o.fate) done))
+    good.world
 
 -- the outcome is right
-pub train_right : (net : NetworkPlan) (report : Report) (tries t : ℕ) (o : Outcome) (j : Judge) → report.tries ≡ tries → length report.outcomes ≡ t → t < length net.trains
+pub train_right : (net : NetworkPlan) (report : Report) (tries t : ℕ) (o : Outcome) (j : Judge) → report.tries ≡ tries → length report.outcomes ≡ t
+    → t < length net.trains
     → j.failure ≡ None → OutcomeTested net tries j t o None → HasJudgedTrains net report j
     → HasJudgedTrains net (record report { outcomes = report.outcomes ++ o ∷ [] }) j
 train_right net report tries t o j tried place low fine tested judged =
@@ -185,7 +193,8 @@ train_right net report tries t o j tried place low fine tested judged =
     let found = there j.counts.items t (omega arith) in
     let holds = subst AllHold (same_guards net tries report.moves t o j found.0 good found.1) (tested found.0 found.1) in
     let here : IsRightOutcome net report.tries report.moves (length report.outcomes) o =
-    subst (λ n. IsRightOutcome net n report.moves (length report.outcomes) o) (sym tried) (subst (λ n. IsRightOutcome net tries report.moves n o) (sym place) holds) in
+    subst (λ n. IsRightOutcome net n report.moves (length report.outcomes) o) (sym tried)
+    (subst (λ n. IsRightOutcome net tries report.moves n o) (sym place) holds) in
     record {
       fits = judged.fits;
       trains = judged.trains;
@@ -196,7 +205,8 @@ train_right net report tries t o j tried place low fine tested judged =
     }
 
 -- a guard of the outcome fails
-pub train_wrong : (net : NetworkPlan) (report : Report) (tries t : ℕ) (o : Outcome) (j new : Judge) (line number : ℕ) → report.tries ≡ tries → length report.outcomes ≡ t → t < length net.trains
+pub train_wrong : (net : NetworkPlan) (report : Report) (tries t : ℕ) (o : Outcome) (j new : Judge) (line number : ℕ) → report.tries ≡ tries
+    → length report.outcomes ≡ t → t < length net.trains
     → j.failure ≡ None → OutcomeTested net tries j t o (Some number)
     → new ≡ record j { failure = Some (record { line = line; guard = number }) } → line ≡ j.moves + 3 + t
     → HasJudgedTrains net report j
@@ -216,14 +226,16 @@ train_wrong net report tries t o j new line number tried place low fine tested i
       right = λ e. absurd (cc);
       bad = λ f e.
           let same = same_Some (record { line = line; guard = number }) f e in
-          subst (λ (g : Failure). IsFirstBadMove net report.moves g.line g.guard ⊎ IsFirstBadOutcome net (record report { outcomes = report.outcomes ++ o ∷ [] }) g.line g.guard) same
+          subst (λ (g : Failure). IsFirstBadMove net report.moves g.line g.guard
+          ⊎ IsFirstBadOutcome net (record report { outcomes = report.outcomes ++ o ∷ [] }) g.line g.guard) same
           (inr (record {
             guarded = good.guarded;
             train = length report.outcomes;
             outcome = o;
             there = at_the_end report.outcomes o;
             before = λ k p under at. judged.right fine k p (sym (within report.outcomes (o ∷ []) k under) ∙ at);
-            fails = subst (λ n. FirstFails number (outcome_guards net n report.moves (length report.outcomes) o)) (sym tried) (subst (λ n. FirstFails number (outcome_guards net tries report.moves n o)) (sym place) fails);
+            fails = subst (λ n. FirstFails number (outcome_guards net n report.moves (length report.outcomes) o)) (sym tried)
+                (subst (λ n. FirstFails number (outcome_guards net tries report.moves n o)) (sym place) fails);
             place = omega (arith, line_is, count, place);
           }));
     })
@@ -232,7 +244,8 @@ pub length_of_counts : (new old : Judge) → new.counts ≡ old.counts → lengt
 length_of_counts new old e = ap (λ c. length c.items) e
 
 -- the verdict, where the lines of all trains were judged
-pub verdict_from : (net : NetworkPlan) (report : Report) (j : Judge) (v : Verdict) → (Guarded net report.moves → IsSafeRun net report.moves) → length report.outcomes ≡ length net.trains
+pub verdict_from : (net : NetworkPlan) (report : Report) (j : Judge) (v : Verdict) → (Guarded net report.moves → IsSafeRun net report.moves)
+    → length report.outcomes ≡ length net.trains
     → HasJudgedTrains net report j → VerdictIs j v → IsVerdict net report v
 verdict_from net report j (Safe n) safe all judged is =
     (is.1 ∙ judged.count, record { run = safe (judged.good is.0).guarded; trains = all; outcomes = judged.right is.0 })

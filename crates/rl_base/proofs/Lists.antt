@@ -13,7 +13,8 @@ slice_get-push [] y = refl
 slice_get-push (x ∷ xs) y = slice_get-push xs y
 
 -- what holds of each item, and of one more, holds of each after the push
-pub each_push : {A : Type 0} (P : ℕ → A → Type 0) (xs : List A) (y : A) → ((k : ℕ) (x : A) → slice_get xs k ≡ Some x → P k x) → P (length xs) y → (k : ℕ) (x : A) → slice_get (xs ++ y ∷ []) k ≡ Some x → P k x
+pub each_push : {A : Type 0} (P : ℕ → A → Type 0) (xs : List A) (y : A) → ((k : ℕ) (x : A) → slice_get xs k ≡ Some x → P k x) → P (length xs) y
+    → (k : ℕ) (x : A) → slice_get (xs ++ y ∷ []) k ≡ Some x → P k x
 each_push P [] y each here zero x is = let same : y ≡ x = cc in rw (← same) here
 each_push P [] y each here (suc k) x is = absurd (cc)
 each_push P (z ∷ xs) y each here zero x is = each zero x is

@@ -24,7 +24,8 @@ is_no_later-trans (x ∷ xs) (y ∷ ys) [] a b = absurd (false≢true b)
 is_no_later-trans (x ∷ xs) (y ∷ ys) (z ∷ zs) a b =
     heads x y z (is_no_later xs ys) (is_no_later ys zs) (is_no_later xs zs) (is_no_later-trans xs ys zs) a b
   where
-    heads : (x y z : ℕ) (s t u : Bool) → (s ≡ true → t ≡ true → u ≡ true) → (ltb x y || (eqb x y && s)) ≡ true → (ltb y z || (eqb y z && t)) ≡ true → (ltb x z || (eqb x z && u)) ≡ true
+    heads : (x y z : ℕ) (s t u : Bool) → (s ≡ true → t ≡ true → u ≡ true) → (ltb x y || (eqb x y && s)) ≡ true → (ltb y z || (eqb y z && t)) ≡ true
+        → (ltb x z || (eqb x z && u)) ≡ true
     heads x y z s t u rest a b = grind (arith, nat_tests)
 
 -- likewise of places

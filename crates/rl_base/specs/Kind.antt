@@ -26,7 +26,8 @@ arms_join Crossing x y side = are_arms x y 0 1 || are_arms x y 2 3
 
 -- the side at which the box connects x and y, left where it does at both, and none where at neither
 abbrev pub joining_side : Kind → ℕ → ℕ → Option Side
-joining_side kind x y = if arms_join kind x y Left then Some Left else (if arms_join kind x y Right then Some Right else None)
+joining_side kind x y = if arms_join kind x y Left then Some Left else
+    (if arms_join kind x y Right then Some Right else None)
 
 -- the words for them in a network and in what is printed
 abbrev pub kind_word : Kind → List ℕ

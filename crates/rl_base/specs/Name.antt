@@ -6,7 +6,8 @@ use Rattle.rl_base.specs.declared.limits.TheConstants.{MAX_NAME}
 -- one of A to Z, a to z, 0 to 9, _ and -
 abbrev pub is_name_byte : ℕ → Bool
 is_name_byte b =
-    (nat_le 65 b && nat_le b 90) || (nat_le 97 b && nat_le b 122) || (nat_le 48 b && nat_le b 57) || (b == 95) || (b == 45)
+    (nat_le 65 b && nat_le b 90) || (nat_le 97 b && nat_le b 122) || (nat_le 48 b && nat_le b 57) || (b == 95)
+    || (b == 45)
 
 -- 1 to 16 of those bytes
 abbrev pub is_name : List ℕ → Bool

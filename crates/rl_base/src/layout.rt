@@ -164,8 +164,10 @@ impl Layout {
 
 /// The numbers of words and nodes are one to one: no two words of a layout have one number, and no two nodes.
 pub fn numberings()
-    ensures words { (lay : Layout) (j k : WordKind) → HasWord lay j → HasWord lay k → word_number lay j ≡ word_number lay k → j ≡ k }
+    ensures words { (lay : Layout) (j k : WordKind) → HasWord lay j → HasWord lay k
+        → word_number lay j ≡ word_number lay k → j ≡ k }
     ensures words_within { (lay : Layout) (kind : WordKind) → HasWord lay kind → word_number lay kind < word_count lay }
-    ensures nodes { (lay : Layout) (j k : NodeKind) → HasNode lay j → HasNode lay k → node_number lay j ≡ node_number lay k → j ≡ k }
+    ensures nodes { (lay : Layout) (j k : NodeKind) → HasNode lay j → HasNode lay k
+        → node_number lay j ≡ node_number lay k → j ≡ k }
     ensures nodes_within { (lay : Layout) (kind : NodeKind) → HasNode lay kind → node_number lay kind < node_count lay }
 {}

@@ -17,7 +17,8 @@ use Rattle.rl_box.proofs.Sentences.{ComparesLetters}
 use Rattle.rl_box.proofs.StepLaws.{ReadsWords, step_front}
 
 -- where a step fits, the glance says so
-sees : (b : BoxTable) (mind : BoxMind) (word next : Word) (after : BoxMind) → BoxStep b mind word next after → FitsWord word → may_step b mind.work mind.waiting (packed_word word) ≡ true
+sees : (b : BoxTable) (mind : BoxMind) (word next : Word) (after : BoxMind) → BoxStep b mind word next after → FitsWord word
+    → may_step b mind.work mind.waiting (packed_word word) ≡ true
 sees b _ _ _ _ (take t l waiting to has) fits =
     let here : l.to.0 ≡ b.number.0 = ap (λ (c : BoxId). c.0) to in
     let low : packed_mail (mails.Ask l) % 1024 ≡ 1 + 8 * b.number.0 = omega arith in
@@ -41,7 +42,8 @@ none_of : {A : Type 0} (o : Option A) → ((v : A) → o ≡ Some v → ⊥) →
 none_of None h = refl
 none_of (Some v) h = absurd (h v refl)
 
-pub no_step : ComparesLetters → ReadsWords → (b : BoxTable) (mind : BoxMind) (payload : ℕ) → may_step b mind.work mind.waiting payload ≡ false → (kind : WordKind) → box_step b mind kind payload ≡ None
+pub no_step : ComparesLetters → ReadsWords → (b : BoxTable) (mind : BoxMind) (payload : ℕ) → may_step b mind.work mind.waiting payload ≡ false
+    → (kind : WordKind) → box_step b mind kind payload ≡ None
 no_step same reads b mind payload hidden kind = none_of (box_step b mind kind payload) (λ r e.
     let p = step_front same b mind kind payload r.0 r.1 e in
     let seen = reads kind payload p.seen p.reads in

@@ -41,14 +41,16 @@ few_arms Crossing = omega arith
 passage : (verb : Verb) (x y : ℕ) → verb ≡ verbs.Lock → FitsArms verb x y → x ≢ y
 passage verb x y is f = let P : Verb → Type 0 = λ v. FitsArms v x y in subst P is f
 
-path_fits : (lay : Layout) (b : BoxTable) (t : TrainId) (l : Letter) → lay.trains ≤ 32 → t.0 < lay.trains → IsLetterTo b l → l.verb ≡ verbs.Lock → FitsPath (path_of t l)
+path_fits : (lay : Layout) (b : BoxTable) (t : TrainId) (l : Letter) → lay.trains ≤ 32 → t.0 < lay.trains → IsLetterTo b l → l.verb ≡ verbs.Lock
+    → FitsPath (path_of t l)
 path_fits lay b t l few train letter is =
     record { train = omega arith; x = letter.fits.x; y = letter.fits.y; apart = passage l.verb l.x.0 l.y.0 is letter.fits.arms }
 
 refusable : (verb may : Verb) → verb ≡ may → IsRefusable may → IsRefusable verb
 refusable verb may is r = subst IsRefusable (sym is) r
 
-pub box_kept : KeepsArms → (lay : Layout) (b : BoxTable) (mind : BoxMind) (word next : Word) (after : BoxMind) → lay.trains ≤ 32 → b.number.0 < 128 → BoxStep b mind word next after → IsBoxMind lay b mind → HasWord lay (kind_of word) → FitsWord word → FitsWord next × IsBoxMind lay b after
+pub box_kept : KeepsArms → (lay : Layout) (b : BoxTable) (mind : BoxMind) (word next : Word) (after : BoxMind) → lay.trains ≤ 32 → b.number.0 < 128
+    → BoxStep b mind word next after → IsBoxMind lay b mind → HasWord lay (kind_of word) → FitsWord word → FitsWord next × IsBoxMind lay b after
 box_kept arms lay b _ _ _ _ few small (take t l waiting to has) h there fits =
     let tests = and_parts _ _ has in
     (fits, record { work = (there, record { to = to; fits = fits; x = ltb-true _ _ tests.0; y = ltb-true _ _ tests.1 }); waiting = h.waiting })
@@ -71,7 +73,8 @@ box_kept arms lay b _ _ _ _ few small (ask t l side is here other) h there fits 
 box_kept arms lay b _ _ _ _ few small (moved p) h there fits =
     let path = h.waiting in
     let most = few_arms b.kind in
-    let letter : IsLetterTo b (about_passage b.number verbs.Lock p.x p.y) = record { to = refl; fits = record { to = small; x = omega arith; y = omega arith; arms = path.apart }; x = path.x; y = path.y } in
+    let letter : IsLetterTo b (about_passage b.number verbs.Lock p.x p.y) =
+    record { to = refl; fits = record { to = small; x = omega arith; y = omega arith; arms = path.apart }; x = path.x; y = path.y } in
     (fits, record { work = (path.train, letter, tt); waiting = tt })
 box_kept arms lay b _ _ _ _ few small (unlock t l side is joins) h there fits =
     (tt, record { work = (h.work.0, h.work.1, tt); waiting = tt })

@@ -22,19 +22,26 @@ use Rattle.rl_box.specs.Steps.BoxStep.{take, reserve, refuse, release, lock, ask
 use Rattle.rl_box.proofs.Kept.{KeepsArms, box_kept}
 use Rattle.rl_box.proofs.Sentences.{ComparesLetters, ComparesItself, box_front, box_back}
 
-pub step_front : ComparesLetters → (b : BoxTable) (mind : BoxMind) (kind : WordKind) (payload new : ℕ) (after : BoxMind) → box_step b mind kind payload ≡ Some (new, after) → PackedStep (BoxStep b mind) kind payload new after
+pub step_front : ComparesLetters → (b : BoxTable) (mind : BoxMind) (kind : WordKind) (payload new : ℕ) (after : BoxMind)
+    → box_step b mind kind payload ≡ Some (new, after) → PackedStep (BoxStep b mind) kind payload new after
 unfolding box_step
-step_front same b mind kind payload new after e = packed_by _ _ kind payload new after (box_front same b mind) (packed_front (box_on b mind) kind payload new after e)
+step_front same b mind kind payload new after e =
+    packed_by _ _ kind payload new after (box_front same b mind) (packed_front (box_on b mind) kind payload new after e)
 
-pub step_back : ComparesItself → (b : BoxTable) (mind : BoxMind) (kind : WordKind) (payload new : ℕ) (after : BoxMind) → PackedStep (BoxStep b mind) kind payload new after → box_step b mind kind payload ≡ Some (new, after)
+pub step_back : ComparesItself → (b : BoxTable) (mind : BoxMind) (kind : WordKind) (payload new : ℕ) (after : BoxMind)
+    → PackedStep (BoxStep b mind) kind payload new after → box_step b mind kind payload ≡ Some (new, after)
 unfolding box_step
-step_back same b mind kind payload new after p = packed_back (box_on b mind) kind payload new after (packed_by _ _ kind payload new after (box_back same b mind) p)
+step_back same b mind kind payload new after p =
+    packed_back (box_on b mind) kind payload new after (packed_by _ _ kind payload new after (box_back same b mind) p)
 
-pub one_step : ComparesItself → (b : BoxTable) (mind : BoxMind) (word next other : Word) (after last : BoxMind) → BoxStep b mind word next after → BoxStep b mind word other last → (next ≡ other) × (after ≡ last)
-one_step same b mind word next other after last p q = some_pair_parts next other after last (sym (box_back same b mind word next after p) ∙ box_back same b mind word other last q)
+pub one_step : ComparesItself → (b : BoxTable) (mind : BoxMind) (word next other : Word) (after last : BoxMind) → BoxStep b mind word next after
+    → BoxStep b mind word other last → (next ≡ other) × (after ≡ last)
+one_step same b mind word next other after last p q =
+    some_pair_parts next other after last (sym (box_back same b mind word next after p) ∙ box_back same b mind word other last q)
 
 -- the box owns the word that it steps at
-owner : (lay : Layout) (b : BoxTable) (mind : BoxMind) (word next : Word) (after : BoxMind) → BoxStep b mind word next after → IsBoxMind lay b mind → word_owner word ≡ nodes.Box b.number
+owner : (lay : Layout) (b : BoxTable) (mind : BoxMind) (word next : Word) (after : BoxMind) → BoxStep b mind word next after → IsBoxMind lay b mind
+    → word_owner word ≡ nodes.Box b.number
 owner lay b _ _ _ _ (take t l waiting to has) h = ap nodes.Box to
 owner lay b _ _ _ _ (reserve t l waiting w is free) h = refl
 owner lay b _ _ _ _ (refuse t u l waiting w is held other) h = refl
@@ -55,10 +62,12 @@ LooksAt lay b mind kind = (scan : ℕ) × (scan ≤ lay.trains) × (kind ≡ box
 at_verb : (b : BoxTable) (verb is : Verb) → verb ≡ is → verb_target b is ≡ verb_target b verb
 at_verb b verb is e = sym (ap (verb_target b) e)
 
-last_place : (lay : Layout) (b : BoxTable) → kinds.Lock b.number ≡ (if nat_lt lay.trains lay.trains then kinds.Mail (record { 0 = lay.trains }) else kinds.Lock b.number)
+last_place : (lay : Layout) (b : BoxTable)
+    → kinds.Lock b.number ≡ (if nat_lt lay.trains lay.trains then kinds.Mail (record { 0 = lay.trains }) else kinds.Lock b.number)
 last_place lay b = let no : nat_lt lay.trains lay.trains ≡ false = le-ltb lay.trains lay.trains (omega arith) in rw no refl
 
-looks : (lay : Layout) (b : BoxTable) (mind : BoxMind) (word next : Word) (after : BoxMind) → BoxStep b mind word next after → HasWord lay (kind_of word) → LooksAt lay b mind (kind_of word)
+looks : (lay : Layout) (b : BoxTable) (mind : BoxMind) (word next : Word) (after : BoxMind) → BoxStep b mind word next after → HasWord lay (kind_of word)
+    → LooksAt lay b mind (kind_of word)
 looks lay b _ _ _ _ (take t l waiting to has) there =
     let in_range : nat_lt t.0 lay.trains ≡ true = lt-ltb t.0 lay.trains there in
     (t.0, omega arith, rw in_range refl)
@@ -97,9 +106,12 @@ abbrev pub PacksSmall : Type 0
 PacksSmall = (word : Word) → FitsWord word → packed_word word < 2 ^ 32
 
 abbrev pub OwnsWords : Type 0
-OwnsWords = (lay : Layout) (word : Word) → HasWord lay (kind_of word) → HasNode lay (word_owner word) → FitsWord word → Owns lay (word_number lay (kind_of word)) (packed_word word) (node_number lay (word_owner word))
+OwnsWords = (lay : Layout) (word : Word) → HasWord lay (kind_of word) → HasNode lay (word_owner word) → FitsWord word
+    → Owns lay (word_number lay (kind_of word)) (packed_word word) (node_number lay (word_owner word))
 
-pub keeps : ComparesLetters → KeepsArms → ReadsWords → PacksSmall → OwnsWords → (lay : Layout) (b : BoxTable) (mind : BoxMind) (kind : WordKind) (payload new : ℕ) (after : BoxMind) → IsAtWord lay b mind kind → box_step b mind kind payload ≡ Some (new, after) → KeepsBox lay b mind kind payload new after
+pub keeps : ComparesLetters → KeepsArms → ReadsWords → PacksSmall → OwnsWords
+    → (lay : Layout) (b : BoxTable) (mind : BoxMind) (kind : WordKind) (payload new : ℕ) (after : BoxMind) → IsAtWord lay b mind kind
+    → box_step b mind kind payload ≡ Some (new, after) → KeepsBox lay b mind kind payload new after
 keeps same arms reads small owns lay b mind kind payload new after at e =
     let p = step_front same b mind kind payload new after e in
     let r = reads kind payload p.seen p.reads in

@@ -21,7 +21,8 @@ pub record IsAtWord (lay : Layout) (b : BoxTable) (mind : BoxMind) (kind : WordK
 
 -- a step changes a word that the box looks at and owns by a line of the table of steps, and leaves a value of that word
 -- there and a well-formed mind
-pub record KeepsBox (lay : Layout) (b : BoxTable) (mind : BoxMind) (kind : WordKind) (payload new : ℕ) (after : BoxMind) : Type 0 where
+pub record KeepsBox (lay : Layout) (b : BoxTable) (mind : BoxMind) (kind : WordKind) (payload new : ℕ) (after : BoxMind)
+    : Type 0 where
   pub target : (scan : ℕ) × (scan ≤ lay.trains) × (kind ≡ box_target lay b mind scan)
   pub owned : Owns lay (word_number lay kind) payload (node_number lay (nodes.Box b.number))
   pub seen : Word

@@ -164,7 +164,8 @@ lock_turn b t l verbs.Release v = None
 lock_turn b t l verbs.Lock (Free side) =
     if connects b l side
     then Some (Locked (path_of t l), box_at (Say t l Yes) None)
-    else (if connects b l (other_side side) then Some (Asked (path_of t l), box_at Ready (Some (path_of t l))) else None)
+    else (if connects b l (other_side side) then Some
+    (Asked (path_of t l), box_at Ready (Some (path_of t l))) else None)
 lock_turn b t l verbs.Lock (Asked p) = None
 lock_turn b t l verbs.Lock (Moving p) = None
 lock_turn b t l verbs.Lock (Moved p) = None

@@ -48,7 +48,8 @@ spot_occupies net t s (Clear k) = or_nothing _
 spot_occupies net t s (Go k) = or_nothing _
 spot_occupies net t s (Across k) = refl
 
-spot_across : (net : NetworkPlan) (t b from to : ℕ) (run : RunWord) → across_at net t b from to (spot_of run) ≡ is_across (route_segment net t) (route_box net t) run b from to
+spot_across : (net : NetworkPlan) (t b from to : ℕ) (run : RunWord)
+    → across_at net t b from to (spot_of run) ≡ is_across (route_segment net t) (route_box net t) run b from to
 spot_across net t b from to (Clear k) = refl
 spot_across net t b from to (Go k) = refl
 spot_across net t b from to (Across k) = refl
@@ -72,7 +73,8 @@ nowhere net t s (Clear k) past = rw (no_segment net t k past) refl
 nowhere net t s (Go k) past = rw (no_segment net t k past) refl
 nowhere net t s (Across k) past = rw (no_segment net t k past, no_segment net t (k + 1) past) refl
 
-not_across : (net : NetworkPlan) (t b from to : ℕ) (run : RunWord) → length net.trains ≤ t → is_across (route_segment net t) (route_box net t) run b from to ≡ false
+not_across : (net : NetworkPlan) (t b from to : ℕ) (run : RunWord) → length net.trains ≤ t
+    → is_across (route_segment net t) (route_box net t) run b from to ≡ false
 not_across net t b from to (Clear k) past = refl
 not_across net t b from to (Go k) past = refl
 not_across net t b from to (Across k) past =
@@ -112,7 +114,8 @@ lock_of_passage segments p t from to h =
       to_there = number_there (segments p.y.0) to parts.1;
     }
 
-lock_path : (segments : ℕ → Option ℕ) (w : LockWord) (t from to : ℕ) → locks segments w t from to ≡ true → (p : Path) × (locked_path w ≡ Some p) × IsLockOf segments p t from to
+lock_path : (segments : ℕ → Option ℕ) (w : LockWord) (t from to : ℕ) → locks segments w t from to ≡ true
+    → (p : Path) × (locked_path w ≡ Some p) × IsLockOf segments p t from to
 lock_path segments (Free side) t from to h = absurd (false≢true h)
 lock_path segments (Asked p) t from to h = (p, refl, lock_of_passage segments p t from to h)
 lock_path segments (Moving p) t from to h = (p, refl, lock_of_passage segments p t from to h)
@@ -130,21 +133,25 @@ segment_there net b x s network h =
     option_and_then_some (arm_at b) (slice_get net.segments s) x ((network.boxes b y there).segments x s h)
     (λ g within _. slice_get_within net.segments s g within))
 
-module _ (net : NetworkPlan) (core : Core) (spots : List Spot) (boxes : List BoxState) (network : IsNetwork net) (are : AreTablesOf net core.line) (of_trains : AreSpots core (length core.line.trains) spots) (of_boxes : AreBoxStates net core (length net.boxes) boxes) where
+module _ (net : NetworkPlan) (core : Core) (spots : List Spot) (boxes : List BoxState) (network : IsNetwork net) (are : AreTablesOf net core.line)
+    (of_trains : AreSpots core (length core.line.trains) spots) (of_boxes : AreBoxStates net core (length net.boxes) boxes) where
   trains_same : length core.line.trains ≡ length net.trains
   trains_same = are.trains.length_is
 
   boxes_same : length core.line.boxes ≡ length net.boxes
   boxes_same = are.boxes.length_is
 
-  occupies_core : (t s : ℕ) → option_map_or (occupies_at net t s) (slice_get spots t) false ≡ stands_on (route_segment net t) (run_in core.line (state_of core) t) s
+  occupies_core : (t s : ℕ)
+      → option_map_or (occupies_at net t s) (slice_get spots t) false ≡ stands_on (route_segment net t) (run_in core.line (state_of core) t) s
   occupies_core t s =
       elim (slice_get_cases spots t).1 [
         | inl here ↦ rw (here.2, of_trains.each t here.0 here.2) (spot_occupies net t s (run_in core.line (state_of core) t))
         | inr past ↦ rw past.1 (sym (nowhere net t s (run_in core.line (state_of core) t) (omega (arith, of_trains.size, trains_same, past.0))))
       ]
 
-  across_core : (t b from to : ℕ) → option_map_or (across_at net t b from to) (slice_get spots t) false ≡ is_across (route_segment net t) (route_box net t) (run_in core.line (state_of core) t) b from to
+  across_core : (t b from to : ℕ)
+      → option_map_or (across_at net t b from to) (slice_get spots t) false
+      ≡ is_across (route_segment net t) (route_box net t) (run_in core.line (state_of core) t) b from to
   across_core t b from to =
       elim (slice_get_cases spots t).1 [
         | inl here ↦ rw (here.2, of_trains.each t here.0 here.2) (spot_across net t b from to (run_in core.line (state_of core) t))
@@ -158,7 +165,9 @@ module _ (net : NetworkPlan) (core : Core) (spots : List Spot) (boxes : List Box
         | inr past ↦ rw past.1 (sym (ap steps_made (run_absent core t (omega (arith, of_trains.size, past.0)))))
       ]
 
-  holds_core : (t s b : ℕ) → option_map_or (holds_at boxes t b) (arm_of net s b) false ≡ option_map_or (λ x. is_held_by t (holder_in core.line (state_of core) b x)) (arm_of net s b) false
+  holds_core : (t s b : ℕ)
+      → option_map_or (holds_at boxes t b) (arm_of net s b) false
+      ≡ option_map_or (λ x. is_held_by t (holder_in core.line (state_of core) b x)) (arm_of net s b) false
   holds_core t s b =
       elim (option_cases (arm_of net s b)) [
         | inl none ↦ rw none refl
@@ -173,19 +182,23 @@ module _ (net : NetworkPlan) (core : Core) (spots : List Spot) (boxes : List Box
             ]
       ]
 
-  locked_core : (b t from to : ℕ) → option_map_or (λ (x : BoxState). is_lock t from to x.lock) (slice_get boxes b) false ≡ locks (segment_at net b) (lock_in core.line (state_of core) b) t from to
+  locked_core : (b t from to : ℕ)
+      → option_map_or (λ (x : BoxState). is_lock t from to x.lock) (slice_get boxes b) false
+      ≡ locks (segment_at net b) (lock_in core.line (state_of core) b) t from to
   locked_core b t from to =
       elim (slice_get_cases boxes b).1 [
         | inl here ↦ rw here.2 ((of_boxes.each b here.0 here.2).lock t from to)
         | inr past ↦ rw past.1 (sym (ap (λ w. locks (segment_at net b) w t from to) (lock_absent core b (omega (arith, of_boxes.size, boxes_same, past.0)))))
       ]
 
-  points_core : (b : ℕ) → option_map_or (λ (x : BoxState). x.points) (slice_get boxes b) points.Left ≡ points_in (kind_of net b) (lock_in core.line (state_of core) b)
+  points_core : (b : ℕ) → option_map_or (λ (x : BoxState). x.points) (slice_get boxes b) points.Left
+      ≡ points_in (kind_of net b) (lock_in core.line (state_of core) b)
   points_core b =
       elim (slice_get_cases boxes b).1 [
         | inl here ↦ rw here.2 (of_boxes.each b here.0 here.2).points
         | inr past ↦
-            let kind : kind_of net b ≡ Buffer = ap (λ o. option_map_or (λ (x : SwitchBox). x.kind) o Buffer) (slice_get_past net.boxes b (omega (arith, of_boxes.size, past.0))) in
+            let kind : kind_of net b ≡ Buffer =
+            ap (λ o. option_map_or (λ (x : SwitchBox). x.kind) o Buffer) (slice_get_past net.boxes b (omega (arith, of_boxes.size, past.0))) in
             rw (past.1, kind, lock_absent core b (omega (arith, of_boxes.size, boxes_same, past.0))) refl
       ]
 

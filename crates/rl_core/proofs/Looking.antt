@@ -78,7 +78,8 @@ box_looked tables c n scan w was p b x m result line at there sound is target wo
 
 pub machine_looked : (tables : Tables) (c : CoreState) (n scan w was p : ℕ) (b : BoxId) (m : MachineMind) (result : Option (ℕ × MachineMind))
     → node_at (layout_of tables) n ≡ Some (nodes.Machine b) → c.minds n ≡ Machine m → w ≡ word_number (layout_of tables) (machine_target b)
-    → slice_get c.words w ≡ Some was → p ≡ payload_in was → result ≡ machine_step b m (machine_target b) p → Looked tables c n scan w was (as_mind Machine result)
+    → slice_get c.words w ≡ Some was → p ≡ payload_in was → result ≡ machine_step b m (machine_target b) p
+    → Looked tables c n scan w was (as_mind Machine result)
 machine_looked tables c n scan w was p b m result at is target word payload acts =
     looked tables c n scan w was p (Machine m) (as_mind Machine result) is (machine_looks tables n scan w b m at target) word payload
     (machine_acts tables n w p b m result at target acts)

@@ -74,7 +74,9 @@ option_cases None = inl refl
 option_cases (Some x) = inr (x, refl)
 
 -- the boxes at which a segment ends are there
-pub ends_in_range : (net : NetworkPlan) (s : ℕ) (low high : BoxId) (x y : Arm) → IsNetwork net → option_map {U = (BoxId × Arm) × (BoxId × Arm)} (λ (g : Segment). ((g.low.at, g.low.arm), (g.high.at, g.high.arm))) (slice_get net.segments s) ≡ Some ((low, x), (high, y)) → (low.0 < length net.boxes) × (high.0 < length net.boxes)
+pub ends_in_range : (net : NetworkPlan) (s : ℕ) (low high : BoxId) (x y : Arm) → IsNetwork net
+    → option_map {U = (BoxId × Arm) × (BoxId × Arm)} (λ (g : Segment). ((g.low.at, g.low.arm), (g.high.at, g.high.arm))) (slice_get net.segments s)
+    ≡ Some ((low, x), (high, y)) → (low.0 < length net.boxes) × (high.0 < length net.boxes)
 ends_in_range net s low high x y network is =
     elim (slice_get_cases net.segments s).1 [
       | inl here ↦

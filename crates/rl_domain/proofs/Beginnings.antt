@@ -61,7 +61,8 @@ holder_first net t s b i x at first =
     let holder = (first.holders i (omega (arith, at.arm, few))).starts t in
     rw at.segment at holder
 
-holds_first : (net : NetworkPlan) (rows : Rows) (t s b : ℕ) → IsNetwork net → AreFirstStates net rows.boxes → (world_of net rows).holds t s b ≡ (starts_on net t s && has_end net s b)
+holds_first : (net : NetworkPlan) (rows : Rows) (t s b : ℕ) → IsNetwork net → AreFirstStates net rows.boxes
+    → (world_of net rows).holds t s b ≡ (starts_on net t s && has_end net s b)
 holds_first net rows t s b network first =
     elim (option_cases (arm_of net s b)) [
       | inl none ↦ rw none (sym (and_right (starts_on net t s) false refl))
@@ -90,7 +91,8 @@ points_first net rows b first =
       | inr past ↦ rw past.1 (sym (start_side_past net b (omega (arith, first.count, past.0))))
     ]
 
-pub start_world : (net : NetworkPlan) (rows : Rows) → IsNetwork net → AreFirstStandings net rows.trains → AreFirstStates net rows.boxes → world_of net rows ≡ start net
+pub start_world : (net : NetworkPlan) (rows : Rows) → IsNetwork net → AreFirstStandings net rows.trains → AreFirstStates net rows.boxes
+    → world_of net rows ≡ start net
 start_world net rows network standings states =
     same_world (world_of net rows) (start net)
     (λ t s. occupies_first net rows t s standings)

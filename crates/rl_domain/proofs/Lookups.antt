@@ -5,7 +5,8 @@ use Rattle.std.proofs.lemmas.Bool.{ne_eqb, cases_eq}
 use Rattle.std.proofs.lemmas.Bool.Decides.{nat_tests}
 
 -- what holds of each item and of one more holds of each after a write
-pub each_set : {A : Type 0} (P : ℕ → A → Type 0) (xs : List A) (i : ℕ) (y : A) → ((k : ℕ) (x : A) → slice_get xs k ≡ Some x → P k x) → P i y → (k : ℕ) (x : A) → slice_get (slice_set xs i y) k ≡ Some x → P k x
+pub each_set : {A : Type 0} (P : ℕ → A → Type 0) (xs : List A) (i : ℕ) (y : A) → ((k : ℕ) (x : A) → slice_get xs k ≡ Some x → P k x) → P i y → (k : ℕ) (x : A)
+    → slice_get (slice_set xs i y) k ≡ Some x → P k x
 each_set P [] i y each here k x is = absurd (cc)
 each_set P (z ∷ xs) zero y each here zero x is = let same : y ≡ x = cc in rw (← same) here
 each_set P (z ∷ xs) zero y each here (suc k) x is = each (suc k) x is
@@ -22,7 +23,8 @@ suc_is_suc : (j i : ℕ) → (suc j == suc i) ≡ (j == i)
 suc_is_suc j i = grind (arith, nat_tests)
 
 -- after a write at i the look-up at i gives what was written, and every other what it gave
-pub look_set : {A B : Type 0} (f : A → B) (xs : List A) (i j : ℕ) (a y : A) (d : B) → slice_get xs i ≡ Some a → option_map_or f (slice_get (slice_set xs i y) j) d ≡ cond (j == i) (f y) (option_map_or f (slice_get xs j) d)
+pub look_set : {A B : Type 0} (f : A → B) (xs : List A) (i j : ℕ) (a y : A) (d : B) → slice_get xs i ≡ Some a
+    → option_map_or f (slice_get (slice_set xs i y) j) d ≡ cond (j == i) (f y) (option_map_or f (slice_get xs j) d)
 look_set f [] i j a y d is = absurd (cc)
 look_set f (x ∷ xs) zero zero a y d is = refl
 look_set f (x ∷ xs) zero (suc j) a y d is = rw suc_is_zero refl
@@ -43,7 +45,8 @@ get_set_other (x ∷ xs) (suc i) zero y other = refl
 get_set_other (x ∷ xs) (suc i) (suc j) y other = get_set_other xs i j y (λ same. other (ap suc same))
 
 -- what a look-up reads and the write keeps is kept at every place
-pub look_kept : {A B : Type 0} (f : A → B) (xs : List A) (i j : ℕ) (a y : A) (d : B) → slice_get xs i ≡ Some a → f y ≡ f a → option_map_or f (slice_get (slice_set xs i y) j) d ≡ option_map_or f (slice_get xs j) d
+pub look_kept : {A B : Type 0} (f : A → B) (xs : List A) (i j : ℕ) (a y : A) (d : B) → slice_get xs i ≡ Some a → f y ≡ f a
+    → option_map_or f (slice_get (slice_set xs i y) j) d ≡ option_map_or f (slice_get xs j) d
 look_kept f xs i j a y d is keeps =
     elim (cases_eq j i) [
       | inl same ↦ rw (same, get_set_same xs i a y is, is) keeps

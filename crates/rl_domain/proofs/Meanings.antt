@@ -54,7 +54,8 @@ no_lock None isnt = refl
 no_lock (Some l) isnt = absurd (true≢false (sym (own_lock l) ∙ isnt l.t.0 l.s.0 l.s2.0))
 
 -- a test of the one locked path, and of each locked path
-pub locked_path_iff : (l : PathLock) (test : ℕ → ℕ → Bool) (answer : Bool) → (test l.s.0 l.s2.0 ≡ answer) ↔ ((u from to : ℕ) → is_lock u from to (Some l) ≡ true → test from to ≡ answer)
+pub locked_path_iff : (l : PathLock) (test : ℕ → ℕ → Bool) (answer : Bool)
+    → (test l.s.0 l.s2.0 ≡ answer) ↔ ((u from to : ℕ) → is_lock u from to (Some l) ≡ true → test from to ≡ answer)
 locked_path_iff l test answer = (
   λ is u from to at. let parts = lock_parts l u from to at in rw (parts.1, parts.2) is,
   λ all. all l.t.0 l.s.0 l.s2.0 (own_lock l),
@@ -68,21 +69,27 @@ pub ↔_trans : {P Q R : Type 0} → (P ↔ Q) → (Q ↔ R) → P ↔ R
 ↔_trans f g = (λ p. g.0 (f.0 p), λ r. f.1 (g.1 r))
 
 -- a passage from segment on, over box b or over any
-passage_off_iff : (b on : ℕ) (o : Option Passage) → (option_map_or (λ (p : Passage). b == p.b.0) o false ≡ false) ↔ ((from to : ℕ) → option_map_or (λ (p : Passage). b == p.b.0 && from == on && to == p.to.0) o false ≡ false)
+passage_off_iff : (b on : ℕ) (o : Option Passage)
+    → (option_map_or (λ (p : Passage). b == p.b.0) o false ≡ false) ↔ ((from to : ℕ)
+    → option_map_or (λ (p : Passage). b == p.b.0 && from == on && to == p.to.0) o false ≡ false)
 passage_off_iff b on None = (λ isnt from to. refl, λ all. refl)
 passage_off_iff b on (Some p) = (
   λ isnt from to. and_left _ _ (and_left _ _ isnt),
-  λ all. false_from_ne_true _ (λ is. let own = and_from _ _ (and_from _ _ is (eq-eqb on on refl)) (eq-eqb p.to.0 p.to.0 refl) in true≢false (sym own ∙ all on p.to.0)),
+  λ all. false_from_ne_true _ (λ is. let own = and_from _ _ (and_from _ _ is (eq-eqb on on refl)) (eq-eqb p.to.0 p.to.0 refl) in
+      true≢false (sym own ∙ all on p.to.0)),
 )
 
-passage_none_iff : (on : ℕ) (o : Option Passage) → (is_none o ≡ true) ↔ ((b from to : ℕ) → option_map_or (λ (p : Passage). b == p.b.0 && from == on && to == p.to.0) o false ≡ false)
+passage_none_iff : (on : ℕ) (o : Option Passage)
+    → (is_none o ≡ true) ↔ ((b from to : ℕ) → option_map_or (λ (p : Passage). b == p.b.0 && from == on && to == p.to.0) o false ≡ false)
 passage_none_iff on None = (λ is b from to. refl, λ all. refl)
 passage_none_iff on (Some p) = (
   λ is. absurd (false≢true is),
-  λ all. let own = and_from _ _ (and_from _ _ (eq-eqb p.b.0 p.b.0 refl) (eq-eqb on on refl)) (eq-eqb p.to.0 p.to.0 refl) in absurd (true≢false (sym own ∙ all p.b.0 on p.to.0)),
+  λ all. let own = and_from _ _ (and_from _ _ (eq-eqb p.b.0 p.b.0 refl) (eq-eqb on on refl)) (eq-eqb p.to.0 p.to.0 refl) in
+      absurd (true≢false (sym own ∙ all p.b.0 on p.to.0)),
 )
 
-passage_from_iff : (s on : ℕ) (o : Option Passage) → ((s == on && is_some o) ≡ true) ↔ ((b : ℕ) × (to : ℕ) × IsTrue (option_map_or (λ (p : Passage). b == p.b.0 && s == on && to == p.to.0) o false))
+passage_from_iff : (s on : ℕ) (o : Option Passage)
+    → ((s == on && is_some o) ≡ true) ↔ ((b : ℕ) × (to : ℕ) × IsTrue (option_map_or (λ (p : Passage). b == p.b.0 && s == on && to == p.to.0) o false))
 passage_from_iff s on None =
     (λ is. absurd (false≢true (and_parts (s == on) false is).1), λ some. absurd (false≢true some.2))
 passage_from_iff s on (Some p) = (

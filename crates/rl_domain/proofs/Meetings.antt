@@ -134,7 +134,8 @@ from_some (z ∷ xs) (suc i) zero x y apart is too meet =
 from_some (z ∷ xs) (suc i) (suc j) x y apart is too meet =
     or_right _ _ (from_some xs i j x y (λ same. apart (ap suc same)) is too meet)
 
-collided_from : (net : NetworkPlan) (rows : Rows) (i j : ℕ) (x y : Standing) → i ≢ j → slice_get rows.trains i ≡ Some x → slice_get rows.trains j ≡ Some y → Meet x y → Collided (world_of net rows)
+collided_from : (net : NetworkPlan) (rows : Rows) (i j : ℕ) (x y : Standing) → i ≢ j → slice_get rows.trains i ≡ Some x → slice_get rows.trains j ≡ Some y
+    → Meet x y → Collided (world_of net rows)
 collided_from net rows i j x y apart is too (on_one s on on2) = on_a_segment i j s apart (rw is on) (rw too on2)
 collided_from net rows i j x y apart is too (at_one b from to from2 to2 at at2) =
     across_a_box i j b from to from2 to2 apart (rw is at) (rw too at2)

@@ -42,14 +42,16 @@ and_true true = refl
 and_true false = refl
 
 -- the holders after a reservation and after a release
-reserved : (net : NetworkPlan) (old new : Rows) (t : TrainId) (s b x y z : ℕ) → ChangesHolder net old new s b (Some t) → holder_of net old s b ≡ None → is_train x (holder_of net new y z) ≡ (is_train x (holder_of net old y z) || (x == t.0 && y == s && z == b))
+reserved : (net : NetworkPlan) (old new : Rows) (t : TrainId) (s b x y z : ℕ) → ChangesHolder net old new s b (Some t) → holder_of net old s b ≡ None
+    → is_train x (holder_of net new y z) ≡ (is_train x (holder_of net old y z) || (x == t.0 && y == s && z == b))
 reserved net old new t s b x y z changes free =
     elim (here_or_not y s z b) [
       | inl here ↦ rw (here.0, here.1, changes.changed, free) (sym (at_place (x == t.0) s b))
       | inr other ↦ rw (changes.others y z other, off_place (x == t.0) y s z b other) (or_false _)
     ]
 
-pub reserve_world : (net : NetworkPlan) (old new : Rows) (t : TrainId) (s : SegId) (b : BoxId) → ChangesHolder net old new s.0 b.0 (Some t) → AllHold (guards net (world_of net old) (Reserve t s b)) → world_of net new ≡ after (world_of net old) (Reserve t s b)
+pub reserve_world : (net : NetworkPlan) (old new : Rows) (t : TrainId) (s : SegId) (b : BoxId) → ChangesHolder net old new s.0 b.0 (Some t)
+    → AllHold (guards net (world_of net old) (Reserve t s b)) → world_of net new ≡ after (world_of net old) (Reserve t s b)
 reserve_world net old new t s b changes hold =
     same_world (world_of net new) (after (world_of net old) (Reserve t s b))
     (λ x y. rw changes.trains refl)
@@ -65,14 +67,16 @@ gone (Some u) t x s b held =
     let same = eqb-true t u.0 held in
     rw (at_place (x == t) s b, same) (elim (x == u.0) as (λ p. false ≡ (p && not p)) [ true ↦ refl | false ↦ refl ])
 
-released : (net : NetworkPlan) (old new : Rows) (t s b x y z : ℕ) → ChangesHolder net old new s b None → is_train t (holder_of net old s b) ≡ true → is_train x (holder_of net new y z) ≡ (is_train x (holder_of net old y z) && not (x == t && y == s && z == b))
+released : (net : NetworkPlan) (old new : Rows) (t s b x y z : ℕ) → ChangesHolder net old new s b None → is_train t (holder_of net old s b) ≡ true
+    → is_train x (holder_of net new y z) ≡ (is_train x (holder_of net old y z) && not (x == t && y == s && z == b))
 released net old new t s b x y z changes held =
     elim (here_or_not y s z b) [
       | inl here ↦ rw (here.0, here.1, changes.changed) (gone (holder_of net old s b) t x s b held)
       | inr other ↦ rw (changes.others y z other, off_place (x == t) y s z b other) (and_true _)
     ]
 
-pub release_world : (net : NetworkPlan) (old new : Rows) (t : TrainId) (s : SegId) (b : BoxId) → ChangesHolder net old new s.0 b.0 None → AllHold (guards net (world_of net old) (Release t s b)) → world_of net new ≡ after (world_of net old) (Release t s b)
+pub release_world : (net : NetworkPlan) (old new : Rows) (t : TrainId) (s : SegId) (b : BoxId) → ChangesHolder net old new s.0 b.0 None
+    → AllHold (guards net (world_of net old) (Release t s b)) → world_of net new ≡ after (world_of net old) (Release t s b)
 release_world net old new t s b changes hold =
     same_world (world_of net new) (after (world_of net old) (Release t s b))
     (λ x y. rw changes.trains refl)
@@ -83,14 +87,16 @@ release_world net old new t s b changes hold =
     (λ x. rw changes.trains refl)
 
 -- the locks after a lock
-locks : (old new : Rows) (b y u f g : ℕ) (l : PathLock) → ChangesLock old new b (Some l) → lock_of old b ≡ None → is_lock u f g (lock_of new y) ≡ (is_lock u f g (lock_of old y) || (y == b && u == l.t.0 && f == l.s.0 && g == l.s2.0))
+locks : (old new : Rows) (b y u f g : ℕ) (l : PathLock) → ChangesLock old new b (Some l) → lock_of old b ≡ None
+    → is_lock u f g (lock_of new y) ≡ (is_lock u f g (lock_of old y) || (y == b && u == l.t.0 && f == l.s.0 && g == l.s2.0))
 locks old new b y u f g l changes none =
     elim (cases_eq y b) [
       | inl here ↦ rw (here, changes.changed, none, eq-eqb b b refl) refl
       | inr other ↦ rw (changes.others y other, ne_eqb y b other) (or_false _)
     ]
 
-pub lock_world : (net : NetworkPlan) (old new : Rows) (b : BoxId) (l : PathLock) → ChangesLock old new b.0 (Some l) → AllHold (guards net (world_of net old) (Lock l.t b l.s l.s2)) → world_of net new ≡ after (world_of net old) (Lock l.t b l.s l.s2)
+pub lock_world : (net : NetworkPlan) (old new : Rows) (b : BoxId) (l : PathLock) → ChangesLock old new b.0 (Some l)
+    → AllHold (guards net (world_of net old) (Lock l.t b l.s l.s2)) → world_of net new ≡ after (world_of net old) (Lock l.t b l.s l.s2)
 lock_world net old new b l changes hold =
     same_world (world_of net new) (after (world_of net old) (Lock l.t b l.s l.s2))
     (λ x y. rw changes.trains refl)

@@ -21,7 +21,8 @@ use Rattle.rl_domain.proofs.Travels.{tail_is}
 pub derailed_from : (net : NetworkPlan) (rows : Rows) (t : ℕ) → IsOffRails net rows t → Derailed net (world_of net rows)
 derailed_from net rows t off = at_a_box t off.box off.from off.to off.across off.apart
 
-pub nobody_derailed : (net : NetworkPlan) (rows : Rows) (n : ℕ) → length rows.trains ≤ n → ((t : ℕ) → t < n → IsOffRails net rows t → ⊥) → Derailed net (world_of net rows) → ⊥
+pub nobody_derailed : (net : NetworkPlan) (rows : Rows) (n : ℕ) → length rows.trains ≤ n → ((t : ℕ) → t < n → IsOffRails net rows t → ⊥)
+    → Derailed net (world_of net rows) → ⊥
 nobody_derailed net rows n few nobody (at_a_box t b from to across apart) =
     let x = there (stands_across b from to) (slice_get rows.trains t) across in
     let within = slice_get_within rows.trains t x.0 x.1 in
@@ -48,7 +49,8 @@ segment_has_arm net s b i network within some =
       | inr out ↦ absurd (omega (arith, out.0))
     ]
 
-keeps_holds : (net : NetworkPlan) (rows : Rows) (t s b y : ℕ) (state : BoxState) → IsNetwork net → slice_get rows.boxes b ≡ Some state → KeepsArms net state t s b → is_train t (holder_of net rows y b) ≡ (y == s && has_end net y b)
+keeps_holds : (net : NetworkPlan) (rows : Rows) (t s b y : ℕ) (state : BoxState) → IsNetwork net → slice_get rows.boxes b ≡ Some state
+    → KeepsArms net state t s b → is_train t (holder_of net rows y b) ≡ (y == s && has_end net y b)
 keeps_holds net rows t s b y state network is arms =
     elim (option_cases (arm_of net y b)) [
       | inl none ↦ rw none (sym (and_right (y == s) false refl))
@@ -60,7 +62,8 @@ keeps_holds net rows t s b y state network is arms =
           rw (some.1, is) (arm ∙ and_true (y == s))
     ]
 
-holds_keep : (net : NetworkPlan) (rows : Rows) (t s b i : ℕ) (state : BoxState) → IsNetwork net → Fits net rows → b < length net.boxes → slice_get rows.boxes b ≡ Some state → KeepsOnly net rows t s b → is_train t (holder_at state i) ≡ is_at_arm net s b i
+holds_keep : (net : NetworkPlan) (rows : Rows) (t s b i : ℕ) (state : BoxState) → IsNetwork net → Fits net rows → b < length net.boxes
+    → slice_get rows.boxes b ≡ Some state → KeepsOnly net rows t s b → is_train t (holder_at state i) ≡ is_at_arm net s b i
 holds_keep net rows t s b i state network fits within is keeps =
     elim (option_cases (segment_at net b i)) [
       | inl none ↦
@@ -72,7 +75,8 @@ holds_keep net rows t s b i state network fits within is keeps =
           rw some.1 (holder ∙ sym (and_true (some.0 == s)))
     ]
 
-pub keeps_iff : (net : NetworkPlan) (rows : Rows) (t s b : ℕ) (state : BoxState) → IsNetwork net → Fits net rows → b < length net.boxes → slice_get rows.boxes b ≡ Some state → ((is_lock_of t state.lock ≡ false) × KeepsArms net state t s b) ↔ KeepsOnly net rows t s b
+pub keeps_iff : (net : NetworkPlan) (rows : Rows) (t s b : ℕ) (state : BoxState) → IsNetwork net → Fits net rows → b < length net.boxes
+    → slice_get rows.boxes b ≡ Some state → ((is_lock_of t state.lock ≡ false) × KeepsArms net state t s b) ↔ KeepsOnly net rows t s b
 keeps_iff net rows t s b state network fits within is = (
   λ both.
       record {
@@ -104,14 +108,16 @@ keeps_past net rows t s b network fits past =
           ];
     }
 
-keeps_each : (net : NetworkPlan) (rows : Rows) (t s n b : ℕ) → IsNetwork net → Fits net rows → length net.boxes ≤ n → ((b : ℕ) → b < n → KeepsOnly net rows t s b) → KeepsOnly net rows t s b
+keeps_each : (net : NetworkPlan) (rows : Rows) (t s n b : ℕ) → IsNetwork net → Fits net rows → length net.boxes ≤ n
+    → ((b : ℕ) → b < n → KeepsOnly net rows t s b) → KeepsOnly net rows t s b
 keeps_each net rows t s n b network fits few each =
     elim (cases_lt b n) [
       | inl within ↦ each b within
       | inr past ↦ keeps_past net rows t s b network fits (omega arith)
     ]
 
-pub rests_from : (net : NetworkPlan) (rows : Rows) (t n : ℕ) (x : Standing) → IsNetwork net → Fits net rows → slice_get rows.trains t ≡ Some x → is_none x.across ≡ true → length net.boxes ≤ n → ((b : ℕ) → b < n → KeepsOnly net rows t x.on.0 b) → Rests net (world_of net rows) t
+pub rests_from : (net : NetworkPlan) (rows : Rows) (t n : ℕ) (x : Standing) → IsNetwork net → Fits net rows → slice_get rows.trains t ≡ Some x
+    → is_none x.across ≡ true → length net.boxes ≤ n → ((b : ℕ) → b < n → KeepsOnly net rows t x.on.0 b) → Rests net (world_of net rows) t
 rests_from net rows t n x network fits is off few each =
     record {
       off = λ b from to. rw is ((off_all_iff x).0 off b from to);
@@ -124,7 +130,8 @@ rests_from net rows t n x network fits is off few each =
 pub rests_off : (net : NetworkPlan) (rows : Rows) (t : ℕ) (x : Standing) → slice_get rows.trains t ≡ Some x → Rests net (world_of net rows) t → x.across ≡ None
 rests_off net rows t x is rests = no_passage x (rw is at rests.off)
 
-pub rests_keeps : (net : NetworkPlan) (rows : Rows) (t b : ℕ) (x : Standing) → slice_get rows.trains t ≡ Some x → Rests net (world_of net rows) t → KeepsOnly net rows t x.on.0 b
+pub rests_keeps : (net : NetworkPlan) (rows : Rows) (t b : ℕ) (x : Standing) → slice_get rows.trains t ≡ Some x → Rests net (world_of net rows) t
+    → KeepsOnly net rows t x.on.0 b
 rests_keeps net rows t b x is rests =
     let own = tail_is rests.segment x (rests_off net rows t x is rests) (rw is at rests.stands) in
     rw (← own)

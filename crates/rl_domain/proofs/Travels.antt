@@ -22,28 +22,33 @@ use Rattle.rl_domain.proofs.Moved.{or_false, and_true}
 use Rattle.rl_domain.proofs.Worlds.{same_world}
 
 -- what a look-up in the standings gives after a change: at the train what the new standing gives
-changed_look : {B : Type 0} (f : Standing → B) (d : B) (old new : Rows) (t : ℕ) (change : Standing → Standing) (x : Standing) → ChangesStanding old new t change → slice_get old.trains t ≡ Some x → option_map_or f (slice_get new.trains t) d ≡ f (change x)
+changed_look : {B : Type 0} (f : Standing → B) (d : B) (old new : Rows) (t : ℕ) (change : Standing → Standing) (x : Standing) → ChangesStanding old new t change
+    → slice_get old.trains t ≡ Some x → option_map_or f (slice_get new.trains t) d ≡ f (change x)
 changed_look f d old new t change x changes is = rw (changes.changed x is) refl
 
 or_or : (p q : Bool) → (p || q) ≡ ((p || false) || q)
 or_or true q = refl
 or_or false q = refl
 
-occupies_entered : (old new : Rows) (t : ℕ) (b : BoxId) (s2 : SegId) (x : Standing) (u y : ℕ) → ChangesStanding old new t (enters b s2) → slice_get old.trains t ≡ Some x → x.across ≡ None → occupies_of new u y ≡ (occupies_of old u y || (u == t && y == s2.0))
+occupies_entered : (old new : Rows) (t : ℕ) (b : BoxId) (s2 : SegId) (x : Standing) (u y : ℕ) → ChangesStanding old new t (enters b s2)
+    → slice_get old.trains t ≡ Some x → x.across ≡ None → occupies_of new u y ≡ (occupies_of old u y || (u == t && y == s2.0))
 occupies_entered old new t b s2 x u y changes is off =
     elim (cases_eq u t) [
       | inl here ↦ rw (here, changes.changed x is, is, off, eq-eqb t t refl) (or_or (y == x.on.0) (y == s2.0))
       | inr other ↦ rw (changes.others u other, ne_eqb u t other) (or_false _)
     ]
 
-across_entered : (old new : Rows) (t s : ℕ) (b : BoxId) (s2 : SegId) (x : Standing) (u z f g : ℕ) → ChangesStanding old new t (enters b s2) → slice_get old.trains t ≡ Some x → x.across ≡ None → s ≡ x.on.0 → across_of new u z f g ≡ (across_of old u z f g || (u == t && z == b.0 && f == s && g == s2.0))
+across_entered : (old new : Rows) (t s : ℕ) (b : BoxId) (s2 : SegId) (x : Standing) (u z f g : ℕ) → ChangesStanding old new t (enters b s2)
+    → slice_get old.trains t ≡ Some x → x.across ≡ None → s ≡ x.on.0
+    → across_of new u z f g ≡ (across_of old u z f g || (u == t && z == b.0 && f == s && g == s2.0))
 across_entered old new t s b s2 x u z f g changes is off from =
     elim (cases_eq u t) [
       | inl here ↦ rw (here, changes.changed x is, is, off, eq-eqb t t refl, from) refl
       | inr other ↦ rw (changes.others u other, ne_eqb u t other) (or_false _)
     ]
 
-made_entered : (old new : Rows) (t : ℕ) (b : BoxId) (s2 : SegId) (x : Standing) (u : ℕ) → ChangesStanding old new t (enters b s2) → slice_get old.trains t ≡ Some x → made_of new u ≡ made_of old u
+made_entered : (old new : Rows) (t : ℕ) (b : BoxId) (s2 : SegId) (x : Standing) (u : ℕ) → ChangesStanding old new t (enters b s2)
+    → slice_get old.trains t ≡ Some x → made_of new u ≡ made_of old u
 made_entered old new t b s2 x u changes is =
     elim (cases_eq u t) [
       | inl here ↦ rw (here, changes.changed x is, is) refl
@@ -61,7 +66,9 @@ standing_there net rows t fits within =
       | inr past ↦ absurd (omega (arith, fits.trains, past.0))
     ]
 
-pub enter_world : (net : NetworkPlan) (old new : Rows) (t : TrainId) (b : BoxId) (s s2 : SegId) → Fits net old → t.0 < length net.trains → ChangesStanding old new t.0 (enters b s2) → AllHold (guards net (world_of net old) (Enter t b s s2)) → world_of net new ≡ after (world_of net old) (Enter t b s s2)
+pub enter_world : (net : NetworkPlan) (old new : Rows) (t : TrainId) (b : BoxId) (s s2 : SegId) → Fits net old → t.0 < length net.trains
+    → ChangesStanding old new t.0 (enters b s2) → AllHold (guards net (world_of net old) (Enter t b s s2))
+    → world_of net new ≡ after (world_of net old) (Enter t b s s2)
 enter_world net old new t b s s2 fits within changes hold =
     let here = standing_there net old t.0 fits within in
     let x = here.0 in
@@ -79,28 +86,32 @@ enter_world net old new t b s s2 fits within changes hold =
 head_stays : (y on to : ℕ) → on ≢ to → (y == to || false) ≡ ((y == on || y == to) && not (y == on))
 head_stays y on to apart = grind (arith, nat_tests)
 
-occupies_left : (old new : Rows) (t s : ℕ) (x : Standing) (p : Passage) (u y : ℕ) → ChangesStanding old new t leaves → slice_get old.trains t ≡ Some x → x.across ≡ Some p → s ≡ x.on.0 → x.on.0 ≢ p.to.0 → occupies_of new u y ≡ (occupies_of old u y && not (u == t && y == s))
+occupies_left : (old new : Rows) (t s : ℕ) (x : Standing) (p : Passage) (u y : ℕ) → ChangesStanding old new t leaves → slice_get old.trains t ≡ Some x
+    → x.across ≡ Some p → s ≡ x.on.0 → x.on.0 ≢ p.to.0 → occupies_of new u y ≡ (occupies_of old u y && not (u == t && y == s))
 occupies_left old new t s x p u y changes is across from apart =
     elim (cases_eq u t) [
       | inl here ↦ rw (here, changes.changed x is, is, across, eq-eqb t t refl, from) (head_stays y x.on.0 p.to.0 apart)
       | inr other ↦ rw (changes.others u other, ne_eqb u t other) (and_true _)
     ]
 
-across_left : (old new : Rows) (t : ℕ) (x : Standing) (p : Passage) (u z f g : ℕ) → ChangesStanding old new t leaves → slice_get old.trains t ≡ Some x → x.across ≡ Some p → across_of new u z f g ≡ (across_of old u z f g && not (u == t))
+across_left : (old new : Rows) (t : ℕ) (x : Standing) (p : Passage) (u z f g : ℕ) → ChangesStanding old new t leaves → slice_get old.trains t ≡ Some x
+    → x.across ≡ Some p → across_of new u z f g ≡ (across_of old u z f g && not (u == t))
 across_left old new t x p u z f g changes is across =
     elim (cases_eq u t) [
       | inl here ↦ rw (here, changes.changed x is, is, across, eq-eqb t t refl) (sym (and_right _ false refl))
       | inr other ↦ rw (changes.others u other, ne_eqb u t other) (and_true _)
     ]
 
-made_left : (old new : Rows) (t : ℕ) (x : Standing) (p : Passage) (u : ℕ) → ChangesStanding old new t leaves → slice_get old.trains t ≡ Some x → x.across ≡ Some p → made_of new u ≡ cond (u == t) (made_of old u + 1) (made_of old u)
+made_left : (old new : Rows) (t : ℕ) (x : Standing) (p : Passage) (u : ℕ) → ChangesStanding old new t leaves → slice_get old.trains t ≡ Some x
+    → x.across ≡ Some p → made_of new u ≡ cond (u == t) (made_of old u + 1) (made_of old u)
 made_left old new t x p u changes is across =
     elim (cases_eq u t) [
       | inl here ↦ rw (here, changes.changed x is, is, across, eq-eqb t t refl) refl
       | inr other ↦ rw (changes.others u other, ne_eqb u t other) refl
     ]
 
-pub leave_world : (net : NetworkPlan) (old new : Rows) (t : TrainId) (s : SegId) → Fits net old → t.0 < length net.trains → ChangesStanding old new t.0 leaves → AllHold (guards net (world_of net old) (Leave t s)) → world_of net new ≡ after (world_of net old) (Leave t s)
+pub leave_world : (net : NetworkPlan) (old new : Rows) (t : TrainId) (s : SegId) → Fits net old → t.0 < length net.trains → ChangesStanding old new t.0 leaves
+    → AllHold (guards net (world_of net old) (Leave t s)) → world_of net new ≡ after (world_of net old) (Leave t s)
 leave_world net old new t s fits within changes hold =
     let here = standing_there net old t.0 fits within in
     let x = here.0 in
@@ -115,7 +126,8 @@ leave_world net old new t s fits within changes hold =
     (λ z. rw changes.boxes refl)
     (λ u. made_left old new t.0 x p u changes here.1 parts.1.1)
 
-pub standing_fits : (net : NetworkPlan) (old new : Rows) (t : ℕ) (change : Standing → Standing) → Fits net old → t < length net.trains → ChangesStanding old new t change → ((x : Standing) → slice_get old.trains t ≡ Some x → IsStanding net t (change x)) → Fits net new
+pub standing_fits : (net : NetworkPlan) (old new : Rows) (t : ℕ) (change : Standing → Standing) → Fits net old → t < length net.trains
+    → ChangesStanding old new t change → ((x : Standing) → slice_get old.trains t ≡ Some x → IsStanding net t (change x)) → Fits net new
 standing_fits net old new t change fits within changes is =
     record {
       trains = changes.count ∙ fits.trains;
@@ -132,7 +144,8 @@ standing_fits net old new t change fits within changes is =
       states = rw changes.boxes fits.states;
     }
 
-enters_standing : (net : NetworkPlan) (t : ℕ) (b : BoxId) (s2 : SegId) (x : Standing) → b.0 < length net.boxes → s2.0 < length net.segments → x.on.0 ≢ s2.0 → x.made < steps_of net t → IsStanding net t x → IsStanding net t (enters b s2 x)
+enters_standing : (net : NetworkPlan) (t : ℕ) (b : BoxId) (s2 : SegId) (x : Standing) → b.0 < length net.boxes → s2.0 < length net.segments → x.on.0 ≢ s2.0
+    → x.made < steps_of net t → IsStanding net t x → IsStanding net t (enters b s2 x)
 enters_standing net t b s2 x box to apart left was =
     record {
       made = was.made;
@@ -141,7 +154,8 @@ enters_standing net t b s2 x box to apart left was =
       going = λ p is. left;
     }
 
-pub enter_fits : (net : NetworkPlan) (old new : Rows) (t : TrainId) (b : BoxId) (s s2 : SegId) → Fits net old → t.0 < length net.trains → b.0 < length net.boxes → s2.0 < length net.segments → ChangesStanding old new t.0 (enters b s2) → AllHold (guards net (world_of net old) (Enter t b s s2)) → Fits net new
+pub enter_fits : (net : NetworkPlan) (old new : Rows) (t : TrainId) (b : BoxId) (s s2 : SegId) → Fits net old → t.0 < length net.trains → b.0 < length net.boxes
+    → s2.0 < length net.segments → ChangesStanding old new t.0 (enters b s2) → AllHold (guards net (world_of net old) (Enter t b s s2)) → Fits net new
 enter_fits net old new t b s s2 fits within box to changes hold =
     standing_fits net old new t.0 (enters b s2) fits within changes
     (λ x is.
@@ -162,7 +176,8 @@ leaves_standing net t x p across was =
       going = λ q is. absurd (cc);
     })
 
-pub leave_fits : (net : NetworkPlan) (old new : Rows) (t : TrainId) (s : SegId) → Fits net old → t.0 < length net.trains → ChangesStanding old new t.0 leaves → AllHold (guards net (world_of net old) (Leave t s)) → Fits net new
+pub leave_fits : (net : NetworkPlan) (old new : Rows) (t : TrainId) (s : SegId) → Fits net old → t.0 < length net.trains → ChangesStanding old new t.0 leaves
+    → AllHold (guards net (world_of net old) (Leave t s)) → Fits net new
 leave_fits net old new t s fits within changes hold =
     standing_fits net old new t.0 leaves fits within changes
     (λ x is.
@@ -176,7 +191,8 @@ steps_few net t network =
       | inr past ↦ rw past.1 (omega arith)
     ]
 
-pub leave_few : (net : NetworkPlan) (rows : Rows) (t : TrainId) (s : SegId) → IsNetwork net → Fits net rows → t.0 < length net.trains → AllHold (guards net (world_of net rows) (Leave t s)) → made_of rows t.0 < 64
+pub leave_few : (net : NetworkPlan) (rows : Rows) (t : TrainId) (s : SegId) → IsNetwork net → Fits net rows → t.0 < length net.trains
+    → AllHold (guards net (world_of net rows) (Leave t s)) → made_of rows t.0 < 64
 leave_few net rows t s network fits within hold =
     let here = standing_there net rows t.0 fits within in
     let x = here.0 in

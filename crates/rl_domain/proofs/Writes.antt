@@ -32,7 +32,8 @@ box_fits net rows b state fits is =
       states = each_set (IsState net) rows.boxes b state fits.states is;
     }
 
-pub train_fits : (net : NetworkPlan) (rows : Rows) (t : ℕ) (standing : Standing) → Fits net rows → IsStanding net t standing → Fits net (train_set rows t standing)
+pub train_fits : (net : NetworkPlan) (rows : Rows) (t : ℕ) (standing : Standing) → Fits net rows → IsStanding net t standing
+    → Fits net (train_set rows t standing)
 train_fits net rows t standing fits is =
     record {
       trains = length-set rows.trains t standing ∙ fits.trains;
@@ -42,14 +43,16 @@ train_fits net rows t standing fits is =
     }
 
 -- a write that keeps the holders of a box keeps every holder
-holders_kept : (net : NetworkPlan) (rows : Rows) (b y z : ℕ) (old new : BoxState) → slice_get rows.boxes b ≡ Some old → ((x : ℕ) → holder_at new x ≡ holder_at old x) → holder_of net (box_set rows b new) y z ≡ holder_of net rows y z
+holders_kept : (net : NetworkPlan) (rows : Rows) (b y z : ℕ) (old new : BoxState) → slice_get rows.boxes b ≡ Some old
+    → ((x : ℕ) → holder_at new x ≡ holder_at old x) → holder_of net (box_set rows b new) y z ≡ holder_of net rows y z
 holders_kept net rows b y z old new is keeps =
     elim (option_cases (arm_of net y z)) [
       | inl none ↦ rw none refl
       | inr some ↦ rw some.1 (look_kept (λ state. holder_at state some.0) rows.boxes b z old new None is (keeps some.0))
     ]
 
-pub lock_changes : (rows : Rows) (b : ℕ) (old : BoxState) (lock : Option PathLock) → slice_get rows.boxes b ≡ Some old → ChangesLock rows (box_set rows b (record old { lock = lock })) b lock
+pub lock_changes : (rows : Rows) (b : ℕ) (old : BoxState) (lock : Option PathLock) → slice_get rows.boxes b ≡ Some old
+    → ChangesLock rows (box_set rows b (record old { lock = lock })) b lock
 lock_changes rows b old lock is =
     record {
       trains = refl;
@@ -59,7 +62,8 @@ lock_changes rows b old lock is =
       points = λ z. look_kept (λ (x : BoxState). x.points) rows.boxes b z old (record old { lock = lock }) points.Left is refl;
     }
 
-pub points_changes : (rows : Rows) (b : ℕ) (old : BoxState) (stand : Points) → slice_get rows.boxes b ≡ Some old → ChangesPoints rows (box_set rows b (record old { points = stand })) b stand
+pub points_changes : (rows : Rows) (b : ℕ) (old : BoxState) (stand : Points) → slice_get rows.boxes b ≡ Some old
+    → ChangesPoints rows (box_set rows b (record old { points = stand })) b stand
 points_changes rows b old stand is =
     record {
       trains = refl;
@@ -72,10 +76,12 @@ points_changes rows b old stand is =
 holder_same : (state : BoxState) (i : ℕ) (holder : Option TrainId) → i < 4 → holder_at (with_holder state i holder) i ≡ holder
 holder_same state i holder few = below_four (λ x. holder_at (with_holder state x holder) x ≡ holder) refl refl refl refl i few
 
-holder_other_few : (state : BoxState) (i : ℕ) (holder : Option TrainId) (j : ℕ) → j < 4 → (i ≡ j → ⊥) → holder_at (with_holder state i holder) j ≡ holder_at state j
+holder_other_few : (state : BoxState) (i : ℕ) (holder : Option TrainId) (j : ℕ) → j < 4 → (i ≡ j → ⊥)
+    → holder_at (with_holder state i holder) j ≡ holder_at state j
 holder_other_few state i holder j few =
     below_four (λ x. (i ≡ x → ⊥) → holder_at (with_holder state i holder) x ≡ holder_at state x)
-    (λ other. rw (ne_eqb i 0 other) refl) (λ other. rw (ne_eqb i 1 other) refl) (λ other. rw (ne_eqb i 2 other) refl) (λ other. rw (ne_eqb i 3 other) refl) j few
+    (λ other. rw (ne_eqb i 0 other) refl) (λ other. rw (ne_eqb i 1 other) refl) (λ other. rw (ne_eqb i 2 other) refl)
+    (λ other. rw (ne_eqb i 3 other) refl) j few
 
 holder_other : (state : BoxState) (i : ℕ) (holder : Option TrainId) (j : ℕ) → (j ≡ i → ⊥) → holder_at (with_holder state i holder) j ≡ holder_at state j
 holder_other state i holder j other =
@@ -92,7 +98,8 @@ same_segment : (net : NetworkPlan) (s y b i : ℕ) → IsNetwork net → arm_of 
 same_segment net s y b i network is too =
     same_Some y s (sym (IsAtArm-from_arm net y b i network too).segment ∙ (IsAtArm-from_arm net s b i network is).segment)
 
-holder_of_other : (net : NetworkPlan) (rows : Rows) (s b i y : ℕ) (old : BoxState) (holder : Option TrainId) → IsNetwork net → arm_of net s b ≡ Some i → slice_get rows.boxes b ≡ Some old → (y ≡ s → ⊥) → holder_of net (box_set rows b (with_holder old i holder)) y b ≡ holder_of net rows y b
+holder_of_other : (net : NetworkPlan) (rows : Rows) (s b i y : ℕ) (old : BoxState) (holder : Option TrainId) → IsNetwork net → arm_of net s b ≡ Some i
+    → slice_get rows.boxes b ≡ Some old → (y ≡ s → ⊥) → holder_of net (box_set rows b (with_holder old i holder)) y b ≡ holder_of net rows y b
 holder_of_other net rows s b i y old holder network arm is other =
     elim (option_cases (arm_of net y b)) [
       | inl none ↦ rw none refl
@@ -102,7 +109,8 @@ holder_of_other net rows s b i y old holder network arm is other =
           (look_kept (λ state. holder_at state some.0) rows.boxes b b old (with_holder old i holder) None is (holder_other old i holder some.0 apart))
     ]
 
-pub holder_changes : (net : NetworkPlan) (rows : Rows) (s b i : ℕ) (old : BoxState) (holder : Option TrainId) → IsNetwork net → arm_of net s b ≡ Some i → slice_get rows.boxes b ≡ Some old → ChangesHolder net rows (box_set rows b (with_holder old i holder)) s b holder
+pub holder_changes : (net : NetworkPlan) (rows : Rows) (s b i : ℕ) (old : BoxState) (holder : Option TrainId) → IsNetwork net → arm_of net s b ≡ Some i
+    → slice_get rows.boxes b ≡ Some old → ChangesHolder net rows (box_set rows b (with_holder old i holder)) s b holder
 holder_changes net rows s b i old holder network arm is =
     record {
       trains = refl;
@@ -119,7 +127,8 @@ holder_changes net rows s b i old holder network arm is =
       points = λ z. look_kept (λ (x : BoxState). x.points) rows.boxes b z old (with_holder old i holder) points.Left is refl;
     }
 
-pub holder_state : (net : NetworkPlan) (s b i : ℕ) (old : BoxState) (holder : Option TrainId) → IsNetwork net → arm_of net s b ≡ Some i → ((u : TrainId) → holder ≡ Some u → u.0 < length net.trains) → IsState net b old → IsState net b (with_holder old i holder)
+pub holder_state : (net : NetworkPlan) (s b i : ℕ) (old : BoxState) (holder : Option TrainId) → IsNetwork net → arm_of net s b ≡ Some i
+    → ((u : TrainId) → holder ≡ Some u → u.0 < length net.trains) → IsState net b old → IsState net b (with_holder old i holder)
 holder_state net s b i old holder network arm within fits =
     let at = IsAtArm-from_arm net s b i network arm in
     record {

@@ -41,7 +41,8 @@ enters b s2 standing = record standing { across = Some (record { b = b; to = s2 
 
 abbrev pub leaves : Standing → Standing
 leaves standing =
-    option_map_or (λ (p : Passage). record { made = standing.made + 1; on = p.to; across = None }) standing.across standing
+    option_map_or (λ (p : Passage). record { made = standing.made + 1; on = p.to; across = None }) standing.across
+    standing
 
 -- the standing of train t changes so
 pub record ChangesStanding (old new : Rows) (t : ℕ) (change : Standing → Standing) : Type 0 where

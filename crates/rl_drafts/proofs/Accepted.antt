@@ -78,7 +78,8 @@ module _ (d : Draft) (a : IsAccepted d) where
   -- the name at a place of a route isn't missing among the names of its kind
   route_name : (t j : ℕ) (name : List ℕ) → IsRoutePlace d t j name → not (is_among (cond (eqb (j % 2) 0) d.segments (box_names d)) name) ≡ false
   route_name t j name h =
-      let at = test_fails (λ (x : DraftTrain). on_name x.route j (λ n. not (is_among (cond (eqb (j % 2) 0) d.segments (box_names d)) n))) (slice_get d.trains t) h.item h.train (a 13 (place.RouteItem t j)) in
+      let at = test_fails (λ (x : DraftTrain). on_name x.route j (λ n. not (is_among (cond (eqb (j % 2) 0) d.segments (box_names d)) n)))
+      (slice_get d.trains t) h.item h.train (a 13 (place.RouteItem t j)) in
       test_fails (λ n. not (is_among (cond (eqb (j % 2) 0) d.segments (box_names d)) n)) (slice_get h.item.route j) name h.place at
 
   -- the name at an even place of a route is a segment
@@ -91,19 +92,22 @@ module _ (d : Draft) (a : IsAccepted d) where
   route_box_name : (t k : ℕ) (name : List ℕ) → IsRoutePlace d t (suc (2 * k)) name → (b : ℕ) × (number_in (box_names d) name ≡ Some b)
   route_box_name t k name h =
       let odd : eqb (suc (2 * k) % 2) 0 ≡ false = ne_eqb (suc (2 * k) % 2) 0 (λ e. omega arith) in
-      not_missing (box_names d) name (subst (λ (w : Bool). not (is_among (cond w d.segments (box_names d)) name) ≡ false) odd (route_name t (suc (2 * k)) name h))
+      not_missing (box_names d) name
+      (subst (λ (w : Bool). not (is_among (cond w d.segments (box_names d)) name) ≡ false) odd (route_name t (suc (2 * k)) name h))
 
   -- the box at an odd place of a route connects the segments around it
   route_fits : (t k : ℕ) (x : DraftTrain) → slice_get d.trains t ≡ Some x → suc (2 * k) < length x.route → fits_at d x.route (suc (2 * k)) ≡ true
   route_fits t k x e l =
       let j = suc (2 * k) in
-      let at = test_fails (λ (w : DraftTrain). eqb (j % 2) 1 && ltb j (length w.route) && not (fits_at d w.route j)) (slice_get d.trains t) x e (a 14 (place.RouteItem t j)) in
+      let at = test_fails (λ (w : DraftTrain). eqb (j % 2) 1 && ltb j (length w.route) && not (fits_at d w.route j)) (slice_get d.trains t) x e
+      (a 14 (place.RouteItem t j)) in
       not-false (fits_at d x.route j) (third_fails _ _ _ at (eq-eqb (j % 2) 1 (omega arith)) (lt-ltb j (length x.route) l))
 
   -- two trains have no first name in common
   first_names : (t u : ℕ) (name : List ℕ) → t < u → IsRoutePlace d t 0 name → IsRoutePlace d u 0 name → ⊥
   first_names t u name l h k =
-      let at = test_fails (λ (x : DraftTrain). on_name x.route 0 (is_start (starts_below d u))) (slice_get d.trains u) k.item k.train (a 15 (place.RouteItem u 0)) in
+      let at = test_fails (λ (x : DraftTrain). on_name x.route 0 (is_start (starts_below d u))) (slice_get d.trains u) k.item k.train
+      (a 15 (place.RouteItem u 0)) in
       let none = test_fails (is_start (starts_below d u)) (slice_get k.item.route 0) name k.place at in
       let there = item_mapped (λ (x : DraftTrain). slice_get x.route 0) (take u d.trains) t h.item (item_before u t d.trains l ∙ h.train) in
       both_ways (is_start (starts_below d u) name) none
@@ -117,16 +121,21 @@ IsSound-from_accepted d a =
       few_segments = ltb-false 256 (length d.segments) (a 5 place.Segments);
       few_boxes = ltb-false 128 (length d.boxes) (a 5 place.Boxes);
       few_trains = ltb-false 32 (length d.trains) (a 5 place.Trains);
-      short_routes = λ t x e. ltb-false 129 (length x.route) (test_fails (λ (w : DraftTrain). ltb 129 (length w.route)) (slice_get d.trains t) x e (a 5 (place.TrainRoute t)));
+      short_routes = λ t x e. ltb-false 129 (length x.route)
+          (test_fails (λ (w : DraftTrain). ltb 129 (length w.route)) (slice_get d.trains t) x e (a 5 (place.TrainRoute t)));
       segments = AreDistinct-from_twice d.segments (λ i. a 6 (place.Segment i));
       boxes = AreDistinct-from_twice (box_names d) (λ i. a 6 (place.BoxName i));
       trains = AreDistinct-from_twice (train_names d) (λ i. a 6 (place.TrainName i));
-      arm_counts = λ b x e. eqb-true (length x.arms) (arms_of x.kind) (not-false _ (test_fails (λ (w : DraftBox). not (eqb (length w.arms) (arms_of w.kind))) (slice_get d.boxes b) x e (a 7 (place.BoxArms b))));
+      arm_counts = λ b x e. eqb-true (length x.arms) (arms_of x.kind)
+          (not-false _ (test_fails (λ (w : DraftBox). not (eqb (length w.arms) (arms_of w.kind))) (slice_get d.boxes b) x e (a 7 (place.BoxArms b))));
       arm_names = arm_name d a;
       arms = λ b x e. AreDistinct-from_twice x.arms (λ j. test_fails (λ (w : DraftBox). is_twice w.arms j) (slice_get d.boxes b) x e (a 9 (place.BoxArm b j)));
-      ends = λ s name e. eqb-true (length (ends_of d name)) 2 (not-false _ (test_fails (λ n. not (eqb (length (ends_of d n)) 2)) (slice_get d.segments s) name e (a 10 (place.Segment s))));
-      sides = λ b x e. left_unless_point x.kind x.at (test_fails (λ (w : DraftBox). cond (is_point w.kind) (is_none w.at) (is_some w.at)) (slice_get d.boxes b) x e (a 11 (place.BoxSide b)));
-      odd_routes = λ t x e. eqb-false (length x.route % 2) 0 (test_fails (λ (w : DraftTrain). eqb (length w.route % 2) 0) (slice_get d.trains t) x e (a 12 (place.TrainRoute t)));
+      ends = λ s name e. eqb-true (length (ends_of d name)) 2
+          (not-false _ (test_fails (λ n. not (eqb (length (ends_of d n)) 2)) (slice_get d.segments s) name e (a 10 (place.Segment s))));
+      sides = λ b x e. left_unless_point x.kind x.at
+          (test_fails (λ (w : DraftBox). cond (is_point w.kind) (is_none w.at) (is_some w.at)) (slice_get d.boxes b) x e (a 11 (place.BoxSide b)));
+      odd_routes = λ t x e. eqb-false (length x.route % 2) 0
+          (test_fails (λ (w : DraftTrain). eqb (length w.route % 2) 0) (slice_get d.trains t) x e (a 12 (place.TrainRoute t)));
       route_segments = route_segment_name d a;
       route_boxes = route_box_name d a;
       fits = route_fits d a;

@@ -34,7 +34,8 @@ AreRising [] = Unit {0}
 AreRising (x ∷ xs) = ((e : SegmentEnd) → IsMember e xs → x.at.0 < e.at.0) × AreRising xs
 
 -- rising ends and then rising ends at boxes with higher numbers rise
-AreRising-append : (xs ys : List SegmentEnd) → AreRising xs → AreRising ys → ((x y : SegmentEnd) → IsMember x xs → IsMember y ys → x.at.0 < y.at.0) → AreRising (xs ++ ys)
+AreRising-append : (xs ys : List SegmentEnd) → AreRising xs → AreRising ys → ((x y : SegmentEnd) → IsMember x xs → IsMember y ys → x.at.0 < y.at.0)
+    → AreRising (xs ++ ys)
 AreRising-append [] ys a b before = b
 AreRising-append (x ∷ xs) ys a b before =
     (λ e h. ⊎_elim (a.0 e) (λ y. before x e (inl refl) y) (IsMember-cases e xs ys h), AreRising-append xs ys a.1 b (λ v w h k. before v w (inr h) k))
@@ -47,7 +48,8 @@ record IsEndIn (b i : ℕ) (arms : List (List ℕ)) (name : List ℕ) (e : Segme
   item : slice_get arms place ≡ Some name
 
 -- one arm further on
-IsEndIn-more : (b i : ℕ) (arm : List ℕ) (arms : List (List ℕ)) (name : List ℕ) (e : SegmentEnd) → IsEndIn b (suc i) arms name e → IsEndIn b i (arm ∷ arms) name e
+IsEndIn-more : (b i : ℕ) (arm : List ℕ) (arms : List (List ℕ)) (name : List ℕ) (e : SegmentEnd) → IsEndIn b (suc i) arms name e
+    → IsEndIn b i (arm ∷ arms) name e
 IsEndIn-more b i arm arms name e h =
     let k : e.arm.0 ≡ i + suc h.place = omega (arith, h.arm) in
     record { place = suc h.place; at = h.at; arm = k; item = h.item }
@@ -57,7 +59,8 @@ ends_in_box-sound : (b i : ℕ) (arms : List (List ℕ)) (name : List ℕ) (e : 
 ends_in_box-sound b i [] name e h = absurd h
 ends_in_box-sound b i (arm ∷ arms) name e h = at (bytes_eq arm name) refl h (ends_in_box-sound b (suc i) arms name e)
   where
-    at : (t : Bool) → bytes_eq arm name ≡ t → IsMember e (cond t (end_at b i ∷ ends_in_box b (suc i) arms name) (ends_in_box b (suc i) arms name)) → (IsMember e (ends_in_box b (suc i) arms name) → IsEndIn b (suc i) arms name e) → IsEndIn b i (arm ∷ arms) name e
+    at : (t : Bool) → bytes_eq arm name ≡ t → IsMember e (cond t (end_at b i ∷ ends_in_box b (suc i) arms name) (ends_in_box b (suc i) arms name))
+        → (IsMember e (ends_in_box b (suc i) arms name) → IsEndIn b (suc i) arms name e) → IsEndIn b i (arm ∷ arms) name e
     at true t (inl h) rest =
         let k : e.arm.0 ≡ i + 0 = omega (arith, ap (λ (x : SegmentEnd). x.arm.0) h) in
         record {
@@ -74,7 +77,8 @@ end_is : (e : SegmentEnd) (b i : ℕ) → e.at.0 ≡ b → e.arm.0 ≡ i → e �
 end_is e b i p q = ap₂ end_at p q
 
 -- each arm of a box that has the name is listed
-ends_in_box-complete : (b i : ℕ) (arms : List (List ℕ)) (name : List ℕ) (e : SegmentEnd) (place : ℕ) → e.at.0 ≡ b → e.arm.0 ≡ i + place → slice_get arms place ≡ Some name → IsMember e (ends_in_box b i arms name)
+ends_in_box-complete : (b i : ℕ) (arms : List (List ℕ)) (name : List ℕ) (e : SegmentEnd) (place : ℕ) → e.at.0 ≡ b → e.arm.0 ≡ i + place
+    → slice_get arms place ≡ Some name → IsMember e (ends_in_box b i arms name)
 ends_in_box-complete b i [] name e place p q h = absurd (none-some name h)
 ends_in_box-complete b i (arm ∷ arms) name e zero p q h =
     subst (λ (t : Bool). IsMember e (cond t (end_at b i ∷ ends_in_box b (suc i) arms name) (ends_in_box b (suc i) arms name)))
@@ -82,7 +86,8 @@ ends_in_box-complete b i (arm ∷ arms) name e zero p q h =
 ends_in_box-complete b i (arm ∷ arms) name e (suc place) p q h =
     at (bytes_eq arm name) (ends_in_box-complete b (suc i) arms name e place p (omega (arith, q)) h)
   where
-    at : (t : Bool) → IsMember e (ends_in_box b (suc i) arms name) → IsMember e (cond t (end_at b i ∷ ends_in_box b (suc i) arms name) (ends_in_box b (suc i) arms name))
+    at : (t : Bool) → IsMember e (ends_in_box b (suc i) arms name)
+        → IsMember e (cond t (end_at b i ∷ ends_in_box b (suc i) arms name) (ends_in_box b (suc i) arms name))
     at true h = inr h
     at false h = h
 
@@ -97,9 +102,14 @@ ends_in_box-rising b i [] name d = tt
 ends_in_box-rising b i (arm ∷ arms) name d =
     at (bytes_eq arm name) refl (ends_in_box-rising b (suc i) arms name (AreDistinct-rest arm arms d))
   where
-    at : (t : Bool) → bytes_eq arm name ≡ t → AreRising (ends_in_box b (suc i) arms name) → AreRising (cond t (end_at b i ∷ ends_in_box b (suc i) arms name) (ends_in_box b (suc i) arms name))
-    at true t h =
-        (λ e m. let k = ends_in_box-sound b (suc i) arms name e m in let same : 0 ≡ suc k.place = d.same 0 (suc k.place) name (ap (λ (x : List ℕ). Some x) (same_from_bytes_eq arm name t)) k.item in absurd (omega arith), h)
+    at : (t : Bool) → bytes_eq arm name ≡ t → AreRising (ends_in_box b (suc i) arms name)
+        → AreRising (cond t (end_at b i ∷ ends_in_box b (suc i) arms name) (ends_in_box b (suc i) arms name))
+    at true t h = (
+      λ e m. let k = ends_in_box-sound b (suc i) arms name e m in
+          let same : 0 ≡ suc k.place = d.same 0 (suc k.place) name (ap (λ (x : List ℕ). Some x) (same_from_bytes_eq arm name t)) k.item in
+          absurd (omega arith),
+      h,
+    )
     at false t h = h
 
 -- the end is an arm of one of the boxes, from number b on, and the name stands there
@@ -129,7 +139,8 @@ ends_from-sound b (x ∷ xs) name e h =
         record { place = suc k.place; item = k.item; at = a; box = k.box; arm = k.arm }
 
 -- each arm that has the name is listed
-pub ends_from-complete : (b : ℕ) (boxes : List DraftBox) (name : List ℕ) (e : SegmentEnd) (place : ℕ) (item : DraftBox) → e.at.0 ≡ b + place → slice_get boxes place ≡ Some item → slice_get item.arms e.arm.0 ≡ Some name → IsMember e (ends_from b boxes name)
+pub ends_from-complete : (b : ℕ) (boxes : List DraftBox) (name : List ℕ) (e : SegmentEnd) (place : ℕ) (item : DraftBox) → e.at.0 ≡ b + place
+    → slice_get boxes place ≡ Some item → slice_get item.arms e.arm.0 ≡ Some name → IsMember e (ends_from b boxes name)
 ends_from-complete b [] name e place item p q h = absurd (none-some item q)
 ends_from-complete b (x ∷ xs) name e zero item p q h =
     IsMember-left e (ends_in_box b 0 x.arms name) (ends_from (suc b) xs name)
@@ -139,7 +150,8 @@ ends_from-complete b (x ∷ xs) name e (suc place) item p q h =
     (ends_from-complete (suc b) xs name e place item (omega (arith, p)) q h)
 
 -- the ends of boxes whose arms differ rise
-pub ends_from-rising : (b : ℕ) (boxes : List DraftBox) (name : List ℕ) → ((k : ℕ) (x : DraftBox) → slice_get boxes k ≡ Some x → AreDistinct x.arms) → AreRising (ends_from b boxes name)
+pub ends_from-rising : (b : ℕ) (boxes : List DraftBox) (name : List ℕ) → ((k : ℕ) (x : DraftBox) → slice_get boxes k ≡ Some x → AreDistinct x.arms)
+    → AreRising (ends_from b boxes name)
 ends_from-rising b [] name d = tt
 ends_from-rising b (x ∷ xs) name d =
     AreRising-append (ends_in_box b 0 x.arms name) (ends_from (suc b) xs name) (ends_in_box-rising b 0 x.arms name (d 0 x refl))

@@ -35,23 +35,28 @@ use Rattle.rl_drafts.proofs.Refusals.{first_refusal-none}
 arm_at-low : (b i : ℕ) (g : Segment) → end_at b i ≡ g.low → arm_at b g ≡ Some i
 arm_at-low b i g e =
     let at : g.low.at.0 ≡ b = sym (ap (λ (x : SegmentEnd). x.at.0) e) in
-    ap₂ (λ (t : Bool) (n : ℕ). cond t (Some n) (cond (eqb g.high.at.0 b) (Some g.high.arm.0) None)) (eq-eqb g.low.at.0 b at) (sym (ap (λ (x : SegmentEnd). x.arm.0) e))
+    ap₂ (λ (t : Bool) (n : ℕ). cond t (Some n) (cond (eqb g.high.at.0 b) (Some g.high.arm.0) None)) (eq-eqb g.low.at.0 b at)
+    (sym (ap (λ (x : SegmentEnd). x.arm.0) e))
 
 -- where the higher end is at the box, that is the arm
 arm_at-high : (b i : ℕ) (g : Segment) → g.low.at.0 < g.high.at.0 → end_at b i ≡ g.high → arm_at b g ≡ Some i
 arm_at-high b i g l e =
     let at : g.high.at.0 ≡ b = sym (ap (λ (x : SegmentEnd). x.at.0) e) in
-    ap (λ (t : Bool). cond t (Some g.low.arm.0) (cond (eqb g.high.at.0 b) (Some g.high.arm.0) None)) (ne_eqb g.low.at.0 b (λ x. omega arith)) ∙ ap₂ (λ (t : Bool) (n : ℕ). cond t (Some n) None) (eq-eqb g.high.at.0 b at) (sym (ap (λ (x : SegmentEnd). x.arm.0) e))
+    ap (λ (t : Bool). cond t (Some g.low.arm.0) (cond (eqb g.high.at.0 b) (Some g.high.arm.0) None)) (ne_eqb g.low.at.0 b (λ x. omega arith))
+    ∙ ap₂ (λ (t : Bool) (n : ℕ). cond t (Some n) None) (eq-eqb g.high.at.0 b at) (sym (ap (λ (x : SegmentEnd). x.arm.0) e))
 
 -- more arms are joined where more are there
-joined_more : (kind : Kind) (side : Side) (o u o2 u2 : Option ℕ) → ((i : ℕ) → o ≡ Some i → o2 ≡ Some i) → ((i : ℕ) → u ≡ Some i → u2 ≡ Some i) → joined kind side o u ≡ true → joined kind side o2 u2 ≡ true
+joined_more : (kind : Kind) (side : Side) (o u o2 u2 : Option ℕ) → ((i : ℕ) → o ≡ Some i → o2 ≡ Some i) → ((i : ℕ) → u ≡ Some i → u2 ≡ Some i)
+    → joined kind side o u ≡ true → joined kind side o2 u2 ≡ true
 joined_more kind side (Some x) (Some y) o2 u2 f g h =
     subst₂ (λ (v w : Option ℕ). joined kind side v w ≡ true) (sym (f x refl)) (sym (g y refl)) h
 joined_more kind side (Some x) None o2 u2 f g h = absurd (false≢true h)
 joined_more kind side None u o2 u2 f g h = absurd (false≢true h)
 
 -- things made of things with distinct names have one place for each name
-same_places : {A B : Type 0} (f : A → B) (own : A → List ℕ) (name : B → List ℕ) → ((x : A) → name (f x) ≡ own x) → (xs : List A) (names : List (List ℕ)) → ((k : ℕ) (x : A) → slice_get xs k ≡ Some x → slice_get names k ≡ Some (own x)) → AreDistinct names → (k k2 : ℕ) (y y2 : B) → slice_get (map f xs) k ≡ Some y → slice_get (map f xs) k2 ≡ Some y2 → name y ≡ name y2 → k ≡ k2
+same_places : {A B : Type 0} (f : A → B) (own : A → List ℕ) (name : B → List ℕ) → ((x : A) → name (f x) ≡ own x) → (xs : List A) (names : List (List ℕ))
+    → ((k : ℕ) (x : A) → slice_get xs k ≡ Some x → slice_get names k ≡ Some (own x)) → AreDistinct names → (k k2 : ℕ) (y y2 : B)
+    → slice_get (map f xs) k ≡ Some y → slice_get (map f xs) k2 ≡ Some y2 → name y ≡ name y2 → k ≡ k2
 same_places f own name named xs names listed distinct k k2 y y2 e e2 h =
     let x = mapped_item f xs k y e in
     let x2 = mapped_item f xs k2 y2 e2 in
@@ -68,13 +73,15 @@ module _ (d : Draft) (sound : IsSound d) where
   box_number-is name b e = ap (λ (o : Option ℕ). unwrap_or o 0) e
 
   -- a name that has a number has the number that the network writes
-  segment_named : (name : List ℕ) (n s : ℕ) (id : SegId) → number_in d.segments name ≡ Some n → segment_number d name ≡ id → id.0 ≡ s → number_in d.segments name ≡ Some s
+  segment_named : (name : List ℕ) (n s : ℕ) (id : SegId) → number_in d.segments name ≡ Some n → segment_number d name ≡ id → id.0 ≡ s
+      → number_in d.segments name ≡ Some s
   segment_named name n s id e p q =
       let same : n ≡ s = sym (segment_number-is name n e) ∙ ap (λ (w : SegId). w.0) p ∙ q in
       subst (λ (m : ℕ). number_in d.segments name ≡ Some m) same e
 
   -- and likewise of a box
-  box_named_by : (name : List ℕ) (n b : ℕ) (id : BoxId) → number_in (box_names d) name ≡ Some n → box_number d name ≡ id → id.0 ≡ b → number_in (box_names d) name ≡ Some b
+  box_named_by : (name : List ℕ) (n b : ℕ) (id : BoxId) → number_in (box_names d) name ≡ Some n → box_number d name ≡ id → id.0 ≡ b
+      → number_in (box_names d) name ≡ Some b
   box_named_by name n b id e p q =
       let same : n ≡ b = sym (box_number-is name n e) ∙ ap (λ (w : BoxId). w.0) p ∙ q in
       subst (λ (m : ℕ). number_in (box_names d) name ≡ Some m) same e
@@ -114,21 +121,25 @@ module _ (d : Draft) (sound : IsSound d) where
   arm_of-arm : (s : ℕ) (name : List ℕ) (b i : ℕ) → slice_get d.segments s ≡ Some name → IsArm d b i name → arm_of (network_of d) s b ≡ Some i
   arm_of-arm s name b i e h =
       let m = subst (IsMember (end_at b i)) (ends_are s name e) (member_of_arm name b i h) in
-      ap (option_and_then (arm_at b)) (item_mapped (segment_of d) d.segments s name e) ∙ ⊎_elim (λ low. arm_at-low b i (segment_of d name) low) (λ rest. ⊎_elim (λ high. arm_at-high b i (segment_of d name) (ends_rise s name e) high) (λ x. absurd x) rest) m
+      ap (option_and_then (arm_at b)) (item_mapped (segment_of d) d.segments s name e)
+      ∙ ⊎_elim (λ low. arm_at-low b i (segment_of d name) low)
+      (λ rest. ⊎_elim (λ high. arm_at-high b i (segment_of d name) (ends_rise s name e) high) (λ x. absurd x) rest) m
 
   -- the kind of a box
   kind_of-box : (b : ℕ) (x : DraftBox) → slice_get d.boxes b ≡ Some x → kind_of (network_of d) b ≡ x.kind
   kind_of-box b x e = ap (λ (o : Option SwitchBox). option_map_or (λ (w : SwitchBox). w.kind) o Buffer) (item_mapped (box_of d) d.boxes b x e)
 
   -- the segment at an arm is the number of the name there
-  segment_at-box : (b i : ℕ) (x : DraftBox) → slice_get d.boxes b ≡ Some x → segment_at (network_of d) b i ≡ option_map (λ (s : SegId). s.0) (slice_get (map (segment_number d) x.arms) i)
+  segment_at-box : (b i : ℕ) (x : DraftBox) → slice_get d.boxes b ≡ Some x
+      → segment_at (network_of d) b i ≡ option_map (λ (s : SegId). s.0) (slice_get (map (segment_number d) x.arms) i)
   segment_at-box b i x e =
       ap (option_and_then (λ (w : SwitchBox). option_map (λ (s : SegId). s.0) (slice_get w.arms i))) (item_mapped (box_of d) d.boxes b x e)
 
   -- which is the segment that has the name
   segment_at-arm : (s : ℕ) (name : List ℕ) (b i : ℕ) → number_in d.segments name ≡ Some s → IsArm d b i name → segment_at (network_of d) b i ≡ Some s
   segment_at-arm s name b i e h =
-      segment_at-box b i h.item h.box ∙ ap (option_map (λ (s : SegId). s.0)) (item_mapped (segment_number d) h.item.arms i name h.arm) ∙ ap (λ (n : ℕ). Some n) (segment_number-is name s e)
+      segment_at-box b i h.item h.box ∙ ap (option_map (λ (s : SegId). s.0)) (item_mapped (segment_number d) h.item.arms i name h.arm)
+      ∙ ap (λ (n : ℕ). Some n) (segment_number-is name s e)
 
   -- what stands at an arm is the segment whose arm it is
   arm_of-segment_at : (b i s : ℕ) (x : DraftBox) → slice_get d.boxes b ≡ Some x → segment_at (network_of d) b i ≡ Some s → arm_of (network_of d) s b ≡ Some i
@@ -175,7 +186,8 @@ module _ (d : Draft) (sound : IsSound d) where
       })
 
   -- the segment at a place of the route is the one whose name stands there
-  route_segment-name : (t k s : ℕ) (x : DraftTrain) → slice_get d.trains t ≡ Some x → route_segment (network_of d) t k ≡ Some s → (name : List ℕ) × (slice_get x.route (2 * k) ≡ Some name) × (number_in d.segments name ≡ Some s)
+  route_segment-name : (t k s : ℕ) (x : DraftTrain) → slice_get d.trains t ≡ Some x → route_segment (network_of d) t k ≡ Some s
+      → (name : List ℕ) × (slice_get x.route (2 * k) ≡ Some name) × (number_in d.segments name ≡ Some s)
   route_segment-name t k s x e h =
       let there = ap (option_and_then (λ (r : Train). option_map (λ (s : SegId). s.0) (slice_get r.segments k))) (item_mapped (train_of d) d.trains t x e) in
       let at = map_some (λ (s : SegId). s.0) (slice_get (map (segment_number d) (every_other x.route)) k) s (sym there ∙ h) in
@@ -185,7 +197,8 @@ module _ (d : Draft) (sound : IsSound d) where
       (name.0, place, segment_named name.0 number.0 s at.0 number.1 name.2 at.2)
 
   -- the box at a place of the route is the one whose name stands there
-  route_box-name : (t k b : ℕ) (x : DraftTrain) → slice_get d.trains t ≡ Some x → route_box (network_of d) t k ≡ Some b → (name : List ℕ) × (slice_get x.route (suc (2 * k)) ≡ Some name) × (number_in (box_names d) name ≡ Some b)
+  route_box-name : (t k b : ℕ) (x : DraftTrain) → slice_get d.trains t ≡ Some x → route_box (network_of d) t k ≡ Some b
+      → (name : List ℕ) × (slice_get x.route (suc (2 * k)) ≡ Some name) × (number_in (box_names d) name ≡ Some b)
   route_box-name t k b x e h =
       let there = ap (option_and_then (λ (r : Train). option_map (λ (b : BoxId). b.0) (slice_get r.boxes k))) (item_mapped (train_of d) d.trains t x e) in
       let at = map_some (λ (b : BoxId). b.0) (slice_get (map (box_number d) (every_other (drop 1 x.route))) k) b (sym there ∙ h) in
@@ -201,7 +214,9 @@ module _ (d : Draft) (sound : IsSound d) where
       (h.0, h.1)
 
   -- names of a box that are joined are numbers that are joined
-  joined_numbers : (side : Side) (b s s2 : ℕ) (x : DraftBox) (name name2 : List ℕ) → slice_get d.boxes b ≡ Some x → number_in d.segments name ≡ Some s → number_in d.segments name2 ≡ Some s2 → joined x.kind side (number_in x.arms name) (number_in x.arms name2) ≡ true → joined (kind_of (network_of d) b) side (arm_of (network_of d) s b) (arm_of (network_of d) s2 b) ≡ true
+  joined_numbers : (side : Side) (b s s2 : ℕ) (x : DraftBox) (name name2 : List ℕ) → slice_get d.boxes b ≡ Some x → number_in d.segments name ≡ Some s
+      → number_in d.segments name2 ≡ Some s2 → joined x.kind side (number_in x.arms name) (number_in x.arms name2) ≡ true
+      → joined (kind_of (network_of d) b) side (arm_of (network_of d) s b) (arm_of (network_of d) s2 b) ≡ true
   joined_numbers side b s s2 x name name2 e p q h =
       subst (λ (k : Kind). joined k side (arm_of (network_of d) s b) (arm_of (network_of d) s2 b) ≡ true) (sym (kind_of-box b x e))
       (joined_more x.kind side _ _ _ _ (one s name p) (one s2 name2 q) h)
@@ -221,9 +236,11 @@ module _ (d : Draft) (sound : IsSound d) where
       let before : suc (2 * k) - 1 ≡ 2 * k = omega arith in
       let after : suc (2 * k) + 1 ≡ 2 * (k + 1) = omega arith in
       let named = ap (option_and_then (box_named d)) through.1 ∙ find-number d.boxes through.0 b through.2 ∙ item.1 in
-      let on_box = subst (λ (o : Option DraftBox). option_map_or (λ w. connects_names w (slice_get x.route (suc (2 * k) - 1)) (slice_get x.route (suc (2 * k) + 1))) o false ≡ true) named fits in
+      let on_box = subst (λ (o : Option DraftBox). option_map_or
+      (λ w. connects_names w (slice_get x.route (suc (2 * k) - 1)) (slice_get x.route (suc (2 * k) + 1))) o false ≡ true) named fits in
       let by_names =
-      subst₂ (λ (v w : Option (List ℕ)). connects_names item.0 v w ≡ true) (ap (slice_get x.route) before ∙ from.1) (ap (slice_get x.route) after ∙ to.1) on_box in
+      subst₂ (λ (v w : Option (List ℕ)). connects_names item.0 v w ≡ true) (ap (slice_get x.route) before ∙ from.1)
+      (ap (slice_get x.route) after ∙ to.1) on_box in
       ⊎_elim (λ h. or_left _ _ (joined_numbers Left b s s2 item.0 from.0 to.0 item.1 from.2 to.2 h))
       (λ h. or_right _ _ (joined_numbers Right b s s2 item.0 from.0 to.0 item.1 from.2 to.2 h))
       (or_cases _ _ by_names)
@@ -244,8 +261,10 @@ module _ (d : Draft) (sound : IsSound d) where
       (record {
         shape = omega arith;
         short = omega arith;
-        segments = λ k s p. let n = route_segment-name t k s x h.1 p in subst (λ (m : ℕ). s < m) (sym (length-map d.segments (segment_of d))) (slice_get_within d.segments s n.0 (number_in-item d.segments n.0 s n.2));
-        boxes = λ k b p. let n = route_box-name t k b x h.1 p in let i = box_of_name n.0 b n.2 in subst (λ (m : ℕ). b < m) (sym (length-map d.boxes (box_of d))) (slice_get_within d.boxes b i.0 i.1);
+        segments = λ k s p. let n = route_segment-name t k s x h.1 p in
+            subst (λ (m : ℕ). s < m) (sym (length-map d.segments (segment_of d))) (slice_get_within d.segments s n.0 (number_in-item d.segments n.0 s n.2));
+        boxes = λ k b p. let n = route_box-name t k b x h.1 p in let i = box_of_name n.0 b n.2 in
+            subst (λ (m : ℕ). b < m) (sym (length-map d.boxes (box_of d))) (slice_get_within d.boxes b i.0 i.1);
         fits = λ k s b s2 step. step_fits t k s b s2 x h.1 step;
         name = all_at (λ (w : DraftTrain). is_name w.name) d.trains t x names.trains h.1;
       })
@@ -265,7 +284,8 @@ module _ (d : Draft) (sound : IsSound d) where
       let q = first_name u s b in
       let same = same_Some p.0 q.0 (sym p.2 ∙ q.2) in
       ⊎_elim (λ e. e)
-      (λ h. ⊎_elim (λ l. absurd (sound.starts t u q.0 l (subst (IsRoutePlace d t 0) same p.1) q.1)) (λ l. absurd (sound.starts u t q.0 l q.1 (subst (IsRoutePlace d t 0) same p.1))) h)
+      (λ h. ⊎_elim (λ l. absurd (sound.starts t u q.0 l (subst (IsRoutePlace d t 0) same p.1) q.1))
+      (λ l. absurd (sound.starts u t q.0 l q.1 (subst (IsRoutePlace d t 0) same p.1))) h)
       (cases_order t u)
 
   -- so the whole is a network
@@ -281,9 +301,11 @@ module _ (d : Draft) (sound : IsSound d) where
         segment_names =
             same_places (segment_of d) (λ (n : List ℕ). n) (λ (g : Segment). g.name) (λ n. refl) d.segments d.segments (λ k n e. e) sound.segments;
         box_names =
-            same_places (box_of d) (λ (x : DraftBox). x.name) (λ (x : SwitchBox). x.name) (λ x. refl) d.boxes (box_names d) (item_mapped (λ (x : DraftBox). x.name) d.boxes) sound.boxes;
+            same_places (box_of d) (λ (x : DraftBox). x.name) (λ (x : SwitchBox). x.name) (λ x. refl) d.boxes (box_names d)
+            (item_mapped (λ (x : DraftBox). x.name) d.boxes) sound.boxes;
         train_names =
-            same_places (train_of d) (λ (t : DraftTrain). t.name) (λ (r : Train). r.name) (λ t. refl) d.trains (train_names d) (item_mapped (λ (t : DraftTrain). t.name) d.trains) sound.trains;
+            same_places (train_of d) (λ (t : DraftTrain). t.name) (λ (r : Train). r.name) (λ t. refl) d.trains (train_names d)
+            (item_mapped (λ (t : DraftTrain). t.name) d.trains) sound.trains;
         starts = starts_differ;
       }
 

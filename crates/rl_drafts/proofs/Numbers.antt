@@ -20,7 +20,8 @@ pub number_in-item : (names : List (List ℕ)) (name : List ℕ) (k : ℕ) → n
 number_in-item [] name k e = absurd (none-some k e)
 number_in-item (n ∷ names) name k e = at (bytes_eq n name) refl (number_in-item names name) k e
   where
-    at : (t : Bool) → bytes_eq n name ≡ t → ((j : ℕ) → number_in names name ≡ Some j → slice_get names j ≡ Some name) → (k : ℕ) → cond t (Some 0) (option_map suc (number_in names name)) ≡ Some k → slice_get (n ∷ names) k ≡ Some name
+    at : (t : Bool) → bytes_eq n name ≡ t → ((j : ℕ) → number_in names name ≡ Some j → slice_get names j ≡ Some name) → (k : ℕ)
+        → cond t (Some 0) (option_map suc (number_in names name)) ≡ Some k → slice_get (n ∷ names) k ≡ Some name
     at true b rest k e =
         subst (λ (m : ℕ). slice_get (n ∷ names) m ≡ Some name) (same_Some 0 k e) (ap (λ (x : List ℕ). Some x) (same_from_bytes_eq n name b))
     at false b rest k e =
@@ -44,7 +45,8 @@ pub record AreDistinct (names : List (List ℕ)) : Type 0 where
   pub same : (i j : ℕ) (name : List ℕ) → slice_get names i ≡ Some name → slice_get names j ≡ Some name → i ≡ j
 
 -- a name that an earlier one is too
-twice-earlier : (names : List (List ℕ)) (i j : ℕ) (name : List ℕ) → i < j → slice_get names i ≡ Some name → slice_get names j ≡ Some name → is_twice names j ≡ false → ⊥
+twice-earlier : (names : List (List ℕ)) (i j : ℕ) (name : List ℕ) → i < j → slice_get names i ≡ Some name → slice_get names j ≡ Some name
+    → is_twice names j ≡ false → ⊥
 twice-earlier names i j name l a b e =
     both_ways (is_among (take j names) name) (test_fails (is_among (take j names)) (slice_get names j) name b e)
     (is_among-item (take j names) name i (item_before j i names l ∙ a))

@@ -100,7 +100,12 @@ where_twice d (place.Segment i) h = inl (i, on_within _ d.segments i h, refl)
 where_twice d (place.BoxName i) h =
     inr (inl (i, subst (λ (n : ℕ). i < n) (length-map d.boxes (λ (x : DraftBox). x.name)) (on_within _ (map (λ (x : DraftBox). x.name) d.boxes) i h), refl))
 where_twice d (place.TrainName i) h =
-    inr (inr (i, subst (λ (n : ℕ). i < n) (length-map d.trains (λ (t : DraftTrain). t.name)) (on_within _ (map (λ (t : DraftTrain). t.name) d.trains) i h), refl))
+    inr (inr (
+      i,
+      subst (λ (n : ℕ). i < n) (length-map d.trains (λ (t : DraftTrain). t.name))
+          (on_within _ (map (λ (t : DraftTrain). t.name) d.trains) i h),
+      refl,
+    ))
 where_twice d _ h = absurd (false≢true h)
 
 -- a number of arms is broken at a list of arms
@@ -165,7 +170,8 @@ same_order : {p q : Place} (x y : Place) → p ≡ x → q ≡ y → IsNoLater x
 same_order x y a b h = subst₂ (λ (v w : Place). IsNoLater v w) (sym a) (sym b) h
 
 -- the places come in the order in which they are searched: the segments first
-segments_first : (d : Draft) (p q : Place) → p ≡ place.Segments → (q ≡ place.Boxes) ⊎ ((q ≡ place.Trains) ⊎ Row place.TrainRoute (length d.trains) q) → IsNoLater p q
+segments_first : (d : Draft) (p q : Place) → p ≡ place.Segments → (q ≡ place.Boxes) ⊎ ((q ≡ place.Trains) ⊎ Row place.TrainRoute (length d.trains) q)
+    → IsNoLater p q
 segments_first d p q a (inl b) = same_order place.Segments place.Boxes a b refl
 segments_first d p q a (inr (inl b)) = same_order place.Segments place.Trains a b refl
 segments_first d p q a (inr (inr b)) = same_order place.Segments (place.TrainRoute b.0) a b.2 refl
@@ -180,7 +186,8 @@ trains_first : (d : Draft) (p q : Place) → p ≡ place.Trains → Row place.Tr
 trains_first d p q a b = same_order place.Trains (place.TrainRoute b.0) a b.2 refl
 
 -- the names of segments come first
-segment_names_first : (d : Draft) (p q : Place) → Row place.Segment (length d.segments) p → Row place.BoxName (length d.boxes) q ⊎ Row place.TrainName (length d.trains) q → IsNoLater p q
+segment_names_first : (d : Draft) (p q : Place) → Row place.Segment (length d.segments) p
+    → Row place.BoxName (length d.boxes) q ⊎ Row place.TrainName (length d.trains) q → IsNoLater p q
 segment_names_first d p q a (inl b) = same_order (place.Segment a.0) (place.BoxName b.0) a.2 b.2 refl
 segment_names_first d p q a (inr b) = same_order (place.Segment a.0) (place.TrainName b.0) a.2 b.2 refl
 

@@ -31,11 +31,14 @@ length-every_other (x ∷ y ∷ xs) =
     record { least = omega (arith, h.least); most = omega (arith, h.most) }
 
 -- the box that is found by its name is the one that has the name's number
-pub find-number : (boxes : List DraftBox) (name : List ℕ) (b : ℕ) → number_in (map (λ (x : DraftBox). x.name) boxes) name ≡ Some b → find (λ (x : DraftBox). bytes_eq x.name name) boxes ≡ slice_get boxes b
+pub find-number : (boxes : List DraftBox) (name : List ℕ) (b : ℕ) → number_in (map (λ (x : DraftBox). x.name) boxes) name ≡ Some b
+    → find (λ (x : DraftBox). bytes_eq x.name name) boxes ≡ slice_get boxes b
 find-number [] name b e = absurd (none-some b e)
 find-number (x ∷ xs) name b e = at (bytes_eq x.name name) b e (find-number xs name)
   where
-    at : (t : Bool) (b : ℕ) → cond t (Some 0) (option_map suc (number_in (map (λ (x : DraftBox). x.name) xs) name)) ≡ Some b → ((j : ℕ) → number_in (map (λ (x : DraftBox). x.name) xs) name ≡ Some j → find (λ (x : DraftBox). bytes_eq x.name name) xs ≡ slice_get xs j) → cond t (Some x) (find (λ (x : DraftBox). bytes_eq x.name name) xs) ≡ slice_get (x ∷ xs) b
+    at : (t : Bool) (b : ℕ) → cond t (Some 0) (option_map suc (number_in (map (λ (x : DraftBox). x.name) xs) name)) ≡ Some b
+        → ((j : ℕ) → number_in (map (λ (x : DraftBox). x.name) xs) name ≡ Some j → find (λ (x : DraftBox). bytes_eq x.name name) xs ≡ slice_get xs j)
+        → cond t (Some x) (find (λ (x : DraftBox). bytes_eq x.name name) xs) ≡ slice_get (x ∷ xs) b
     at true b e rest = subst (λ (m : ℕ). Some x ≡ slice_get (x ∷ xs) m) (same_Some 0 b e) refl
     at false b e rest =
         let h = map_some suc (number_in (map (λ (x : DraftBox). x.name) xs) name) b e in

@@ -27,7 +27,8 @@ Finds-one test p = at (test p) refl
     at false e = λ q h. ap test h ∙ e
 
 -- a search at these places and then at those, which come later
-pub Finds-or : (test : Place → Bool) (A B : Place → Type 0) (o u : Option Place) → Finds test A o → Finds test B u → ((p q : Place) → A p → B q → IsNoLater p q) → Finds test (λ q. A q ⊎ B q) (option_or o u)
+pub Finds-or : (test : Place → Bool) (A B : Place → Type 0) (o u : Option Place) → Finds test A o → Finds test B u → ((p q : Place) → A p → B q → IsNoLater p q)
+    → Finds test (λ q. A q ⊎ B q) (option_or o u)
 Finds-or test A B None None a b before = λ q h. ⊎_elim (a q) (b q) h
 Finds-or test A B None (Some p) a b before =
     record { broken = b.broken; inside = inr b.inside; least = λ q h e. ⊎_elim (λ x. absurd (both_ways (test q) (a q x) e)) (λ x. b.least q x e) h }
@@ -35,7 +36,8 @@ Finds-or test A B (Some p) u a b before =
     record { broken = a.broken; inside = inl a.inside; least = λ q h e. ⊎_elim (λ x. a.least q x e) (λ x. before p q a.inside x) h }
 
 -- the same places said in another way
-pub Finds-same : (test : Place → Bool) (A B : Place → Type 0) (o : Option Place) → ((q : Place) → A q → B q) → ((q : Place) → B q → test q ≡ true → A q) → Finds test A o → Finds test B o
+pub Finds-same : (test : Place → Bool) (A B : Place → Type 0) (o : Option Place) → ((q : Place) → A q → B q) → ((q : Place) → B q → test q ≡ true → A q)
+    → Finds test A o → Finds test B o
 Finds-same test A B None to from a = λ q h. false_from_ne_true (test q) (λ e. both_ways (test q) (a q (from q h e)) e)
 Finds-same test A B (Some p) to from a =
     record { broken = a.broken; inside = to p a.inside; least = λ q h e. a.least q (from q h e) e }
@@ -55,25 +57,30 @@ Below-more Among n q (inl h) = (h.0, omega arith, h.2)
 Below-more Among n q (inr h) = (n, omega arith, h)
 
 -- a search in each part of a family in turn
-pub Finds-below : (test : Place → Bool) (Among : ℕ → Place → Type 0) (f : ℕ → Option Place) → ((i : ℕ) → Finds test (Among i) (f i)) → ((i j : ℕ) (p q : Place) → i < j → Among i p → Among j q → IsNoLater p q) → (n : ℕ) → Finds test (Below Among n) (first_below f n)
+pub Finds-below : (test : Place → Bool) (Among : ℕ → Place → Type 0) (f : ℕ → Option Place) → ((i : ℕ) → Finds test (Among i) (f i))
+    → ((i j : ℕ) (p q : Place) → i < j → Among i p → Among j q → IsNoLater p q) → (n : ℕ) → Finds test (Below Among n) (first_below f n)
 Finds-below test Among f each before zero = λ q h. absurd (omega (arith, h.1))
 Finds-below test Among f each before (suc n) =
     Finds-same test (λ q. Below Among n q ⊎ Among n q) (Below Among (suc n)) (first_below f (suc n)) (Below-more Among n) (λ q h e. Below-cases Among n q h)
     (Finds-or test (Below Among n) (Among n) (first_below f n) (f n) (Finds-below test Among f each before n) (each n) (λ p q a b. before a.0 n p q a.1 a.2 b))
 
 -- a search at each place of a row
-pub Finds-row : (test : Place → Bool) (at : ℕ → Place) → ((i j : ℕ) → i < j → IsNoLater (at i) (at j)) → (n : ℕ) → Finds test (Below (λ i q. q ≡ at i) n) (first_below (λ i. cond (test (at i)) (Some (at i)) None) n)
+pub Finds-row : (test : Place → Bool) (at : ℕ → Place) → ((i j : ℕ) → i < j → IsNoLater (at i) (at j)) → (n : ℕ)
+    → Finds test (Below (λ i q. q ≡ at i) n) (first_below (λ i. cond (test (at i)) (Some (at i)) None) n)
 Finds-row test at order n =
     Finds-below test (λ i q. q ≡ at i) (λ i. cond (test (at i)) (Some (at i)) None) (λ i. Finds-one test (at i))
     (λ i j p q l a b. subst₂ (λ (x y : Place). IsNoLater x y) (sym a) (sym b) (order i j l)) n
 
 -- a search at each place of a row of rows
-pub Finds-grid : (test : Place → Bool) (at : ℕ → ℕ → Place) → ((i j k : ℕ) → j < k → IsNoLater (at i j) (at i k)) → ((i i2 j j2 : ℕ) → i < i2 → IsNoLater (at i j) (at i2 j2)) → (m : ℕ → ℕ) (n : ℕ) → Finds test (Below (λ i. Below (λ j q. q ≡ at i j) (m i)) n) (first_below (λ i. first_below (λ j. cond (test (at i j)) (Some (at i j)) None) (m i)) n)
+pub Finds-grid : (test : Place → Bool) (at : ℕ → ℕ → Place) → ((i j k : ℕ) → j < k → IsNoLater (at i j) (at i k))
+    → ((i i2 j j2 : ℕ) → i < i2 → IsNoLater (at i j) (at i2 j2)) → (m : ℕ → ℕ) (n : ℕ)
+    → Finds test (Below (λ i. Below (λ j q. q ≡ at i j) (m i)) n) (first_below (λ i. first_below (λ j. cond (test (at i j)) (Some (at i j)) None) (m i)) n)
 Finds-grid test at within across m n =
     Finds-below test (λ i. Below (λ j q. q ≡ at i j) (m i)) (λ i. first_below (λ j. cond (test (at i j)) (Some (at i j)) None) (m i))
     (λ i. Finds-row test (at i) (within i) (m i))
     (λ i i2 p q l a b. subst₂ (λ (x y : Place). IsNoLater x y) (sym a.2) (sym b.2) (across i i2 a.0 b.0 l)) n
 
 -- a search of each place at which the test can pass
-pub Finds-all : (test : Place → Bool) (A : Place → Type 0) (o : Option Place) → Finds test A o → ((q : Place) → test q ≡ true → A q) → Finds test (λ q. Unit {0}) o
+pub Finds-all : (test : Place → Bool) (A : Place → Type 0) (o : Option Place) → Finds test A o → ((q : Place) → test q ≡ true → A q)
+    → Finds test (λ q. Unit {0}) o
 Finds-all test A o a from = Finds-same test A (λ q. Unit {0}) o (λ q h. tt) (λ q h e. from q e) a

@@ -122,5 +122,6 @@ one_step_report =
 abbrev pub one_step_text : List ℕ
 one_step_text =
     codes "relis report 1\ntries 100\n"
-    ++ codes "reserve T1 B J1\nreserve T1 B E\nlock T1 J1 A B\nenter T1 J1 A B\nleave T1 A\nunlock T1 J1\nrelease T1 A J1\nrelease T1 A W\n"
+    ++ codes "reserve T1 B J1\nreserve T1 B E\nlock T1 J1 A B\nenter T1 J1 A B\n"
+    ++ codes "leave T1 A\nunlock T1 J1\nrelease T1 A J1\nrelease T1 A W\n"
     ++ codes "train T1 arrived 1 0\nend\n"

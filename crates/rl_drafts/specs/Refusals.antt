@@ -82,7 +82,8 @@ breaks d n (place.TrainRoute i) =
     if n == 5 then on_train d i (λ t. nat_lt MAX_ROUTE (length t.route))
     else (n == 12 && on_train d i (λ t. length t.route % 2 == 0))
 breaks d n (place.RouteItem i j) =
-    if n == 13 then on_train d i (λ t. on_name t.route j (λ name. not (is_among (if j % 2 == 0 then d.segments else box_names d) name)))
+    if n == 13 then on_train d i
+    (λ t. on_name t.route j (λ name. not (is_among (if j % 2 == 0 then d.segments else box_names d) name)))
     else (if n == 14 then on_train d i (λ t. (j % 2 == 1) && nat_lt j (length t.route) && not (fits_at d t.route j))
     else (n == 15 && (j == 0 && on_train d i (λ t. on_name t.route 0 (is_start (starts_below d i))))))
 breaks d n _ = false

@@ -17,13 +17,21 @@ ghost use Rattle.rl_base.specs.declared.kind.Kind.TheVariants.{Buffer};
 pub fn refusals_of_examples()
     ensures line { first_refusal one_train ≡ None }
     ensures fork { first_refusal (fork (Some Left) (codes "S" ∷ codes "P" ∷ codes "R" ∷ [])) ≡ None }
-    ensures both_branches { first_refusal (fork (Some Left) (codes "L" ∷ codes "P" ∷ codes "R" ∷ [])) ≡ refused 14 (place.RouteItem 0 1) }
-    ensures no_side { first_refusal (fork None (codes "S" ∷ codes "P" ∷ codes "R" ∷ [])) ≡ refused 11 (place.BoxSide 1) }
-    ensures shared_start { first_refusal (line (draft_train (codes "T1") (codes "A" ∷ []) ∷ draft_train (codes "T2") (codes "A" ∷ []) ∷ [])) ≡ refused 15 (place.RouteItem 1 0) }
+    ensures both_branches { first_refusal (fork (Some Left) (codes "L" ∷ codes "P" ∷ codes "R" ∷ []))
+        ≡ refused 14 (place.RouteItem 0 1) }
+    ensures no_side { first_refusal (fork None (codes "S" ∷ codes "P" ∷ codes "R" ∷ []))
+        ≡ refused 11 (place.BoxSide 1) }
+    ensures shared_start { first_refusal
+        (line (draft_train (codes "T1") (codes "A" ∷ []) ∷ draft_train (codes "T2") (codes "A" ∷ []) ∷ []))
+        ≡ refused 15 (place.RouteItem 1 0) }
     ensures open_end { first_refusal (line_with joint_arms [] []) ≡ refused 10 (place.Segment 1) }
-    ensures three_ends { first_refusal (line_with joint_arms (east ∷ draft_box (codes "F") Buffer (codes "B" ∷ []) None ∷ []) []) ≡ refused 10 (place.Segment 1) }
-    ensures same_box { first_refusal (line_with (codes "A" ∷ codes "A" ∷ []) (east ∷ []) []) ≡ refused 9 (place.BoxArm 1 1) }
-    ensures many_trains { first_refusal (line (replicate 33 (draft_train (codes "T1") (codes "A" ∷ [])))) ≡ refused 5 place.Trains }
+    ensures three_ends { first_refusal
+        (line_with joint_arms (east ∷ draft_box (codes "F") Buffer (codes "B" ∷ []) None ∷ []) [])
+        ≡ refused 10 (place.Segment 1) }
+    ensures same_box { first_refusal (line_with (codes "A" ∷ codes "A" ∷ []) (east ∷ []) [])
+        ≡ refused 9 (place.BoxArm 1 1) }
+    ensures many_trains { first_refusal (line (replicate 33 (draft_train (codes "T1") (codes "A" ∷ []))))
+        ≡ refused 5 place.Trains }
 {}
 
 /// The start, a guard that fails, a safe run and its report on the line of two segments, worked out by hand.

@@ -45,13 +45,16 @@ of_machine tables b (Box m) is = absurd is
 of_machine tables b (Machine m) is = (m, refl)
 
 -- the node that the layout finds
-pub found : ((lay : Layout) (kind : NodeKind) → HasNode lay kind → node_at lay (node_number lay kind) ≡ Some kind) → (tables : Tables) (lay : Layout) (n : ℕ) (kind : NodeKind) → lay ≡ layout_of tables → HasNode lay kind → node_number lay kind ≡ n → node_at (layout_of tables) n ≡ Some kind
+pub found : ((lay : Layout) (kind : NodeKind) → HasNode lay kind → node_at lay (node_number lay kind) ≡ Some kind)
+    → (tables : Tables) (lay : Layout) (n : ℕ) (kind : NodeKind) → lay ≡ layout_of tables → HasNode lay kind → node_number lay kind ≡ n
+    → node_at (layout_of tables) n ≡ Some kind
 found law tables lay n kind is there number =
     let here : node_at lay n ≡ Some kind = subst (λ (m : ℕ). node_at lay m ≡ Some kind) number (law lay kind there) in
     subst (λ (l : Layout). node_at l n ≡ Some kind) is here
 
 -- it is that node, with the mind that it has
-pub is_node : (tables : Tables) (n : ℕ) (mind own : Mind) (found node : NodeKind) → node_at (layout_of tables) n ≡ Some found → HasMind tables n mind → found ≡ node → mind ≡ own → IsNode tables n mind node own
+pub is_node : (tables : Tables) (n : ℕ) (mind own : Mind) (found node : NodeKind) → node_at (layout_of tables) n ≡ Some found → HasMind tables n mind
+    → found ≡ node → mind ≡ own → IsNode tables n mind node own
 is_node tables n mind own found node at has is mind_is =
     let there : node_at (layout_of tables) n ≡ Some node = subst (λ (k : NodeKind). node_at (layout_of tables) n ≡ Some k) is at in
     record { at = there; mind_is = mind_is; formed = subst (λ (m : Mind). IsMindOf tables node m) mind_is (has node there) }

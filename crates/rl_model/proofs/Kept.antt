@@ -22,37 +22,49 @@ use Rattle.rl_model.specs.Moves.{guards, AllHold, after, holds_ends}
 use Rattle.rl_model.specs.Safety.{IsKept, IsSafe, GuardedFrom, worlds_from, IsSafeRun, Guarded}
 
 -- who holds a segment at both ends by one test holds it there by every wider test
-ends_wider : (f g : ℕ → Bool) (o : Option Segment) → ((b : ℕ) → f b ≡ true → g b ≡ true) → option_map_or (λ (x : Segment). f x.low.at.0 && f x.high.at.0) o false ≡ true → option_map_or (λ (x : Segment). g x.low.at.0 && g x.high.at.0) o false ≡ true
+ends_wider : (f g : ℕ → Bool) (o : Option Segment) → ((b : ℕ) → f b ≡ true → g b ≡ true)
+    → option_map_or (λ (x : Segment). f x.low.at.0 && f x.high.at.0) o false ≡ true
+    → option_map_or (λ (x : Segment). g x.low.at.0 && g x.high.at.0) o false ≡ true
 ends_wider f g None wider h = h
 ends_wider f g (Some x) wider h =
     let both = and_parts (f x.low.at.0) (f x.high.at.0) h in
     and_from _ _ (wider _ both.0) (wider _ both.1)
 
-kept_reserve : (net : NetworkPlan) (w : World) (t : TrainId) (s : SegId) (b : BoxId) → IsKept net w → AllHold (guards net w (Reserve t s b)) → IsKept net (after w (Reserve t s b))
+kept_reserve : (net : NetworkPlan) (w : World) (t : TrainId) (s : SegId) (b : BoxId) → IsKept net w → AllHold (guards net w (Reserve t s b))
+    → IsKept net (after w (Reserve t s b))
 kept_reserve net w t s b kept holds =
     record {
       one_holder = λ x u z c h k. let free = holds.1.0 in grind (arith, nat_tests, free, kept.one_holder x u z c);
       one_lock = kept.one_lock;
-      held = λ x y here. ends_wider (w.holds x y) ((after w (Reserve t s b)).holds x y) (slice_get net.segments y) (λ c h. grind (arith, nat_tests)) (kept.held x y here);
+      held = λ x y here. ends_wider (w.holds x y) ((after w (Reserve t s b)).holds x y) (slice_get net.segments y) (λ c h. grind (arith, nat_tests))
+          (kept.held x y here);
       has_lock = kept.has_lock;
       connected = kept.connected;
     }
 
-kept_release : (net : NetworkPlan) (w : World) (t : TrainId) (s : SegId) (b : BoxId) → IsKept net w → AllHold (guards net w (Release t s b)) → IsKept net (after w (Release t s b))
+kept_release : (net : NetworkPlan) (w : World) (t : TrainId) (s : SegId) (b : BoxId) → IsKept net w → AllHold (guards net w (Release t s b))
+    → IsKept net (after w (Release t s b))
 kept_release net w t s b kept holds =
     record {
       one_holder = λ x u z c h k. grind (arith, nat_tests, kept.one_holder x u z c);
       one_lock = kept.one_lock;
-      held = λ x y here. ends_wider (w.holds x y) ((after w (Release t s b)).holds x y) (slice_get net.segments y) (λ c h. let off = holds.1.1.0 in grind (arith, nat_tests)) (kept.held x y here);
+      held = λ x y here. ends_wider (w.holds x y) ((after w (Release t s b)).holds x y) (slice_get net.segments y) (λ c h. let off = holds.1.1.0 in
+          grind (arith, nat_tests)) (kept.held x y here);
       has_lock = kept.has_lock;
       connected = kept.connected;
     }
 
-kept_lock : (net : NetworkPlan) (w : World) (t : TrainId) (b : BoxId) (s : SegId) (s2 : SegId) → IsKept net w → AllHold (guards net w (Lock t b s s2)) → IsKept net (after w (Lock t b s s2))
+kept_lock : (net : NetworkPlan) (w : World) (t : TrainId) (b : BoxId) (s : SegId) (s2 : SegId) → IsKept net w → AllHold (guards net w (Lock t b s s2))
+    → IsKept net (after w (Lock t b s s2))
 kept_lock net w t b s s2 kept holds =
     record {
       one_holder = kept.one_holder;
-      one_lock = λ x u c f g f2 g2 h k. let free = holds.1.0 in (grind (arith, nat_tests, free, kept.one_lock x u c f g f2 g2), grind (arith, nat_tests, free, kept.one_lock x u c f g f2 g2), grind (arith, nat_tests, free, kept.one_lock x u c f g f2 g2));
+      one_lock = λ x u c f g f2 g2 h k. let free = holds.1.0 in (
+        grind (arith, nat_tests, free, kept.one_lock x u c f g f2 g2),
+        grind (arith, nat_tests, free, kept.one_lock x u c f g f2 g2),
+        grind
+            (arith, nat_tests, free, kept.one_lock x u c f g f2 g2),
+      );
       held = kept.held;
       has_lock = λ x c f g h. grind (arith, nat_tests, kept.has_lock x c f g);
       connected = kept.connected;
@@ -64,7 +76,8 @@ kept_unlock net w t b kept holds =
       one_holder = kept.one_holder;
       one_lock = λ x u c f g f2 g2 h k. kept.one_lock x u c f g f2 g2 (and_parts _ _ h).0 (and_parts _ _ k).0;
       held = kept.held;
-      has_lock = λ x c f g h. let mine = kept.has_lock x c f g h in let lock = holds.0.2 in let off = holds.1.0 f g in grind (arith, nat_tests, kept.one_lock x t.0 c f g holds.0.0 holds.0.1);
+      has_lock = λ x c f g h. let mine = kept.has_lock x c f g h in let lock = holds.0.2 in let off = holds.1.0 f g in
+          grind (arith, nat_tests, kept.one_lock x t.0 c f g holds.0.0 holds.0.1);
       connected = kept.connected;
     }
 
@@ -87,7 +100,8 @@ kept_throw net w b kept holds =
     }
 
 -- nobody is across a box whose points move
-kept_settle : (net : NetworkPlan) (w : World) (b : BoxId) (side : Side) → IsKept net w → AllHold (guards net w (Settle b side)) → IsKept net (after w (Settle b side))
+kept_settle : (net : NetworkPlan) (w : World) (b : BoxId) (side : Side) → IsKept net w → AllHold (guards net w (Settle b side))
+    → IsKept net (after w (Settle b side))
 kept_settle net w b side kept holds =
     record {
       one_holder = kept.one_holder;
@@ -103,7 +117,8 @@ kept_settle net w b side kept holds =
           (λ e. kept.connected x c f g h);
     }
 
-kept_enter : (net : NetworkPlan) (w : World) (t : TrainId) (b : BoxId) (s : SegId) (s2 : SegId) → IsKept net w → AllHold (guards net w (Enter t b s s2)) → IsKept net (after w (Enter t b s s2))
+kept_enter : (net : NetworkPlan) (w : World) (t : TrainId) (b : BoxId) (s : SegId) (s2 : SegId) → IsKept net w → AllHold (guards net w (Enter t b s s2))
+    → IsKept net (after w (Enter t b s s2))
 kept_enter net w t b s s2 kept holds =
     record {
       one_holder = kept.one_holder;

@@ -26,7 +26,8 @@ FirstFails n (guard number holds rest) = ((n ≡ number) × (holds → ⊥)) ⊎
 
 -- train t holds segment s at both its ends
 abbrev pub holds_ends : World → NetworkPlan → ℕ → ℕ → Bool
-holds_ends w net t s = option_map_or (λ (g : Segment). w.holds t s g.low.at.0 && w.holds t s g.high.at.0) (slice_get net.segments s) false
+holds_ends w net t s = option_map_or (λ (g : Segment). w.holds t s g.low.at.0 && w.holds t s g.high.at.0)
+    (slice_get net.segments s) false
 
 -- nobody holds segment s at box b
 abbrev pub IsFree : World → ℕ → ℕ → Type 0

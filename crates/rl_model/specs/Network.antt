@@ -62,11 +62,13 @@ can_connect net b s s2 = connects net b s s2 Left || connects net b s s2 Right
 
 -- the side at which box b connects segments s and s2, left where it does at both, and none where at neither
 abbrev pub side_for : NetworkPlan → ℕ → ℕ → ℕ → Option Side
-side_for net b s s2 = if connects net b s s2 Left then Some Left else (if connects net b s s2 Right then Some Right else None)
+side_for net b s s2 = if connects net b s s2 Left then Some Left else
+    (if connects net b s s2 Right then Some Right else None)
 
 -- the segment at arm i of box b
 abbrev pub segment_at : NetworkPlan → ℕ → ℕ → Option ℕ
-segment_at net b i = option_and_then (λ (x : SwitchBox). option_map (λ s. s.0) (slice_get x.arms i)) (slice_get net.boxes b)
+segment_at net b i = option_and_then (λ (x : SwitchBox). option_map (λ s. s.0) (slice_get x.arms i))
+    (slice_get net.boxes b)
 
 -- the names of segment s, box b and train t
 abbrev pub segment_name : NetworkPlan → ℕ → List ℕ
@@ -84,10 +86,12 @@ steps_of net t = option_map_or (λ (r : Train). length r.boxes) (slice_get net.t
 
 -- the segment at place k of the route of train t, and the box that step k passes
 abbrev pub route_segment : NetworkPlan → ℕ → ℕ → Option ℕ
-route_segment net t k = option_and_then (λ (r : Train). option_map (λ s. s.0) (slice_get r.segments k)) (slice_get net.trains t)
+route_segment net t k = option_and_then (λ (r : Train). option_map (λ s. s.0) (slice_get r.segments k))
+    (slice_get net.trains t)
 
 abbrev pub route_box : NetworkPlan → ℕ → ℕ → Option ℕ
-route_box net t k = option_and_then (λ (r : Train). option_map (λ b. b.0) (slice_get r.boxes k)) (slice_get net.trains t)
+route_box net t k = option_and_then (λ (r : Train). option_map (λ b. b.0) (slice_get r.boxes k))
+    (slice_get net.trains t)
 
 -- step k of the route of train t goes from s through b to s2
 pub record IsStep (net : NetworkPlan) (t k s b s2 : ℕ) : Type 0 where
@@ -136,7 +140,10 @@ pub record IsNetwork (net : NetworkPlan) : Type 0 where
   pub segments : (s : ℕ) (g : Segment) → slice_get net.segments s ≡ Some g → IsSegment net s g
   pub boxes : (b : ℕ) (x : SwitchBox) → slice_get net.boxes b ≡ Some x → IsBox net b x
   pub trains : (t : ℕ) (r : Train) → slice_get net.trains t ≡ Some r → IsTrain net t r
-  pub segment_names : (s s2 : ℕ) (g g2 : Segment) → slice_get net.segments s ≡ Some g → slice_get net.segments s2 ≡ Some g2 → g.name ≡ g2.name → s ≡ s2
-  pub box_names : (b b2 : ℕ) (x x2 : SwitchBox) → slice_get net.boxes b ≡ Some x → slice_get net.boxes b2 ≡ Some x2 → x.name ≡ x2.name → b ≡ b2
-  pub train_names : (t t2 : ℕ) (r r2 : Train) → slice_get net.trains t ≡ Some r → slice_get net.trains t2 ≡ Some r2 → r.name ≡ r2.name → t ≡ t2
+  pub segment_names : (s s2 : ℕ) (g g2 : Segment) → slice_get net.segments s ≡ Some g
+      → slice_get net.segments s2 ≡ Some g2 → g.name ≡ g2.name → s ≡ s2
+  pub box_names : (b b2 : ℕ) (x x2 : SwitchBox) → slice_get net.boxes b ≡ Some x → slice_get net.boxes b2 ≡ Some x2
+      → x.name ≡ x2.name → b ≡ b2
+  pub train_names : (t t2 : ℕ) (r r2 : Train) → slice_get net.trains t ≡ Some r → slice_get net.trains t2 ≡ Some r2
+      → r.name ≡ r2.name → t ≡ t2
   pub starts : (t u s : ℕ) → StartsOn net t s → StartsOn net u s → t ≡ u

@@ -23,13 +23,16 @@ fate_word Underway = codes "underway"
 abbrev pub move_words : NetworkPlan → Move → List (List ℕ)
 move_words net (Reserve t s b) = codes "reserve" ∷ train_name net t.0 ∷ segment_name net s.0 ∷ box_name net b.0 ∷ []
 move_words net (Release t s b) = codes "release" ∷ train_name net t.0 ∷ segment_name net s.0 ∷ box_name net b.0 ∷ []
-move_words net (Lock t b s s2) = codes "lock" ∷ train_name net t.0 ∷ box_name net b.0 ∷ segment_name net s.0 ∷ segment_name net s2.0 ∷ []
+move_words net (Lock t b s s2) =
+    codes "lock" ∷ train_name net t.0 ∷ box_name net b.0 ∷ segment_name net s.0 ∷ segment_name net s2.0 ∷ []
 move_words net (Unlock t b) = codes "unlock" ∷ train_name net t.0 ∷ box_name net b.0 ∷ []
 move_words net (Throw b) = codes "throw" ∷ box_name net b.0 ∷ []
 move_words net (Settle b side) = codes "settle" ∷ box_name net b.0 ∷ side_word side ∷ []
-move_words net (Enter t b s s2) = codes "enter" ∷ train_name net t.0 ∷ box_name net b.0 ∷ segment_name net s.0 ∷ segment_name net s2.0 ∷ []
+move_words net (Enter t b s s2) =
+    codes "enter" ∷ train_name net t.0 ∷ box_name net b.0 ∷ segment_name net s.0 ∷ segment_name net s2.0 ∷ []
 move_words net (Leave t s) = codes "leave" ∷ train_name net t.0 ∷ segment_name net s.0 ∷ []
-move_words net (Refuse t s b u) = codes "refuse" ∷ train_name net t.0 ∷ segment_name net s.0 ∷ box_name net b.0 ∷ train_name net u.0 ∷ []
+move_words net (Refuse t s b u) =
+    codes "refuse" ∷ train_name net t.0 ∷ segment_name net s.0 ∷ box_name net b.0 ∷ train_name net u.0 ∷ []
 move_words net (Bar t b u) = codes "bar" ∷ train_name net t.0 ∷ box_name net b.0 ∷ train_name net u.0 ∷ []
 
 abbrev pub move_line : NetworkPlan → Move → List ℕ
@@ -37,7 +40,8 @@ move_line net m = line_of (move_words net m)
 
 -- the line of train t
 abbrev pub outcome_line : NetworkPlan → ℕ → Outcome → List ℕ
-outcome_line net t o = line_of (codes "train" ∷ train_name net t ∷ fate_word o.fate ∷ decimal o.made ∷ decimal o.refused ∷ [])
+outcome_line net t o = line_of
+    (codes "train" ∷ train_name net t ∷ fate_word o.fate ∷ decimal o.made ∷ decimal o.refused ∷ [])
 
 -- the lines of the trains from number t on
 abbrev pub outcome_lines : NetworkPlan → ℕ → List Outcome → List ℕ

@@ -59,7 +59,8 @@ IsRightOutcome net tries moves t o = AllHold (outcome_guards net tries moves t o
 pub record IsRightReport (net : NetworkPlan) (report : Report) : Type 0 where
   pub run : IsSafeRun net report.moves
   pub trains : length report.outcomes ≡ length net.trains
-  pub outcomes : (t : ℕ) (o : Outcome) → slice_get report.outcomes t ≡ Some o → IsRightOutcome net report.tries report.moves t o
+  pub outcomes : (t : ℕ) (o : Outcome) → slice_get report.outcomes t ≡ Some o
+      → IsRightOutcome net report.tries report.moves t o
 
 -- what a report of the network has in range: the tries, moves of the network, and an outcome for each train whose
 -- numbers are no more than a report has moves
@@ -68,4 +69,5 @@ pub record IsReportOf (net : NetworkPlan) (report : Report) : Type 0 where
   pub few_tries : report.tries ≤ MAX_TRIES
   pub moves : (k : ℕ) (m : Move) → slice_get report.moves k ≡ Some m → IsMoveOf net m
   pub trains : length report.outcomes ≡ length net.trains
-  pub outcomes : (t : ℕ) (o : Outcome) → slice_get report.outcomes t ≡ Some o → (o.made ≤ MAX_MOVES) × (o.refused ≤ MAX_MOVES)
+  pub outcomes : (t : ℕ) (o : Outcome) → slice_get report.outcomes t ≡ Some o
+      → (o.made ≤ MAX_MOVES) × (o.refused ≤ MAX_MOVES)

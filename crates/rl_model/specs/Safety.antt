@@ -9,11 +9,13 @@ use Rattle.rl_model.specs.Moves.{guards, AllHold, after, holds_ends}
 -- two trains occupy one segment, or stand across one box
 pub data Collided (w : World) : Type 0 where
   on_a_segment : (t u s : ℕ) → t ≢ u → w.occupies t s ≡ true → w.occupies u s ≡ true → Collided w
-  across_a_box : (t u b from to from2 to2 : ℕ) → t ≢ u → w.across t b from to ≡ true → w.across u b from2 to2 ≡ true → Collided w
+  across_a_box : (t u b from to from2 to2 : ℕ) → t ≢ u → w.across t b from to ≡ true → w.across u b from2 to2 ≡ true
+      → Collided w
 
 -- a train is across a box whose points don't connect its two segments
 pub data Derailed (net : NetworkPlan) (w : World) : Type 0 where
-  at_a_box : (t b from to : ℕ) → w.across t b from to ≡ true → (points_connect net b from to (w.points b) ≡ true → ⊥) → Derailed net w
+  at_a_box : (t b from to : ℕ) → w.across t b from to ≡ true → (points_connect net b from to (w.points b) ≡ true → ⊥)
+      → Derailed net w
 
 pub record IsSafe (net : NetworkPlan) (w : World) : Type 0 where
   pub not_collided : Collided w → ⊥
@@ -49,7 +51,8 @@ pub record IsSafeRun (net : NetworkPlan) (moves : List Move) : Type 0 where
 -- the points connect
 pub record IsKept (net : NetworkPlan) (w : World) : Type 0 where
   pub one_holder : (t u s b : ℕ) → w.holds t s b ≡ true → w.holds u s b ≡ true → t ≡ u
-  pub one_lock : (t u b from to from2 to2 : ℕ) → w.locked b t from to ≡ true → w.locked b u from2 to2 ≡ true → (t ≡ u) × (from ≡ from2) × (to ≡ to2)
+  pub one_lock : (t u b from to from2 to2 : ℕ) → w.locked b t from to ≡ true → w.locked b u from2 to2 ≡ true
+      → (t ≡ u) × (from ≡ from2) × (to ≡ to2)
   pub held : (t s : ℕ) → w.occupies t s ≡ true → holds_ends w net t s ≡ true
   pub has_lock : (t b from to : ℕ) → w.across t b from to ≡ true → w.locked b t from to ≡ true
   pub connected : (t b from to : ℕ) → w.across t b from to ≡ true → points_connect net b from to (w.points b) ≡ true

@@ -11,7 +11,8 @@ ghost use Rattle.rl_model.specs.Safety.{IsKept, IsSafe, Guarded, IsSafeRun, worl
 /// Every guarded list of moves from the start of a network is a safe run, whatever the moves and their order.
 pub fn safe_runs()
     ensures start { (net : NetworkPlan) → IsNetwork net → IsKept net (start net) }
-    ensures kept { (net : NetworkPlan) (w : World) (m : Move) → IsKept net w → AllHold (guards net w m) → IsKept net (after w m) }
+    ensures kept { (net : NetworkPlan) (w : World) (m : Move) → IsKept net w → AllHold (guards net w m)
+        → IsKept net (after w m) }
     ensures safe { (net : NetworkPlan) (w : World) → IsKept net w → IsSafe net w }
     ensures runs { (net : NetworkPlan) (moves : List Move) → IsNetwork net → Guarded net moves → IsSafeRun net moves }
 {}

@@ -1,6 +1,7 @@
 use rl_base::{BoxId, SegId, Sequence, Side, TrainId};
 
-/// One event of the world. Refuse and Bar change nothing. `t` is the train that moves or asks, and `u` one that is in its way.
+/// One event of the world. Refuse and Bar change nothing. `t` is the train that moves or asks, and `u` one that is in
+/// its way.
 #[derive(Clone, Copy, Debug, PartialEq, Eq)]
 pub enum Move {
     /// The train reserves the segment at the box.

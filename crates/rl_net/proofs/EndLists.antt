@@ -9,12 +9,14 @@ abbrev pub end_if : Bool → ℕ → ℕ → List SegmentEnd
 end_if b box i = cond b (end_at box i ∷ []) []
 
 -- a step of the list, whatever stands before it
-cons_if : (t : Bool) (e : SegmentEnd) (before added after : List SegmentEnd) → after ≡ before ++ added → (if t then e ∷ after else after) ≡ (if t then e ∷ before else before) ++ added
+cons_if : (t : Bool) (e : SegmentEnd) (before added after : List SegmentEnd) → after ≡ before ++ added
+    → (if t then e ∷ after else after) ≡ (if t then e ∷ before else before) ++ added
 cons_if true e before added after h = ap (λ r. e ∷ r) h
 cons_if false e before added after h = h
 
 -- the arms up to and with arm i
-pub ends_in_box_more : (b k : ℕ) (arms : List (List ℕ)) (name : List ℕ) (i : ℕ) (arm : List ℕ) → i < length arms → arm ≡ get_or arms i arm → ends_in_box b k (take (suc i) arms) name ≡ ends_in_box b k (take i arms) name ++ end_if (bytes_eq arm name) b (k + i)
+pub ends_in_box_more : (b k : ℕ) (arms : List (List ℕ)) (name : List ℕ) (i : ℕ) (arm : List ℕ) → i < length arms → arm ≡ get_or arms i arm
+    → ends_in_box b k (take (suc i) arms) name ≡ ends_in_box b k (take i arms) name ++ end_if (bytes_eq arm name) b (k + i)
 ends_in_box_more b k [] name i arm lt e = absurd (omega arith)
 ends_in_box_more b k (x ∷ xs) name zero arm lt e = rw (e, add-zero) refl
 ends_in_box_more b k (x ∷ xs) name (suc i) arm lt e =
@@ -23,7 +25,8 @@ ends_in_box_more b k (x ∷ xs) name (suc i) arm lt e =
     rw here (cons_if (bytes_eq x name) (end_at b k) _ _ _ rest)
 
 -- the boxes up to and with box i
-pub ends_from_more : (k : ℕ) (boxes : List DraftBox) (name : List ℕ) (i : ℕ) (x : DraftBox) → i < length boxes → x ≡ get_or boxes i x → ends_from k (take (suc i) boxes) name ≡ ends_from k (take i boxes) name ++ ends_in_box (k + i) 0 x.arms name
+pub ends_from_more : (k : ℕ) (boxes : List DraftBox) (name : List ℕ) (i : ℕ) (x : DraftBox) → i < length boxes → x ≡ get_or boxes i x
+    → ends_from k (take (suc i) boxes) name ≡ ends_from k (take i boxes) name ++ ends_in_box (k + i) 0 x.arms name
 ends_from_more k [] name i x lt e = absurd (omega arith)
 ends_from_more k (y ∷ ys) name zero x lt e = rw (add-zero, append-nil) (ap (λ (z : DraftBox). ends_in_box k 0 z.arms name) (sym e))
 ends_from_more k (y ∷ ys) name (suc i) x lt e =

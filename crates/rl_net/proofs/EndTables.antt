@@ -12,7 +12,8 @@ use Rattle.rl_net.specs.NameTables.{AreUnlike}
 use Rattle.rl_net.proofs.EndLists.{end_if}
 
 -- an arm that names no segment adds nothing
-pub keeps_none : (names : List (List ℕ)) (table : List Ends) (ends : List ℕ → List SegmentEnd) (b i : ℕ) (arm : List ℕ) → number_in names arm ≡ None → Keeps names table ends → Keeps names table (λ name. ends name ++ end_if (bytes_eq arm name) b i)
+pub keeps_none : (names : List (List ℕ)) (table : List Ends) (ends : List ℕ → List SegmentEnd) (b i : ℕ) (arm : List ℕ) → number_in names arm ≡ None
+    → Keeps names table ends → Keeps names table (λ name. ends name ++ end_if (bytes_eq arm name) b i)
 keeps_none names table ends b i arm none keeps s name there =
     let other : bytes_eq arm name ≡ false = false_from_ne_true (bytes_eq arm name) (λ e.
     let same = same_from_bytes_eq arm name e in
@@ -21,7 +22,8 @@ keeps_none names table ends b i arm none keeps s name there =
     rw other (keeps s name there ∙ ap (λ es. Some (ends_kept es)) (sym (append-nil (ends name))))
 
 -- an arm that names a segment adds an end to that one
-pub keeps_one : (names : List (List ℕ)) (old new : List Ends) (ends : List ℕ → List SegmentEnd) (b i k : ℕ) (arm : List ℕ) → AreUnlike names → number_in names arm ≡ Some k
+pub keeps_one : (names : List (List ℕ)) (old new : List Ends) (ends : List ℕ → List SegmentEnd) (b i k : ℕ) (arm : List ℕ) → AreUnlike names
+    → number_in names arm ≡ Some k
     → ((es : List SegmentEnd) → slice_get old k ≡ Some (ends_kept es) → slice_get new k ≡ Some (ends_kept (es ++ end_at b i ∷ [])))
     → ((s : ℕ) → s ≢ k → slice_get new s ≡ slice_get old s)
     → Keeps names old ends → Keeps names new (λ name. ends name ++ end_if (bytes_eq arm name) b i)
@@ -41,7 +43,8 @@ keeps_one names old new ends b i k arm unlike number changed others keeps s name
     ]
 
 -- the same ends said in another way
-pub keeps_same : (names : List (List ℕ)) (table : List Ends) (f g : List ℕ → List SegmentEnd) → ((name : List ℕ) → f name ≡ g name) → Keeps names table f → Keeps names table g
+pub keeps_same : (names : List (List ℕ)) (table : List Ends) (f g : List ℕ → List SegmentEnd) → ((name : List ℕ) → f name ≡ g name) → Keeps names table f
+    → Keeps names table g
 keeps_same names table f g same keeps s name there = keeps s name there ∙ ap (λ es. Some (ends_kept es)) (same name)
 
 -- an item of a list that is one thing again and again

@@ -22,7 +22,8 @@ routes_short d none i = at (slice_get d.trains i) refl
     at None e = omega arith
     at (Some t) e =
         let test : ℕ → Bool = λ k. breaks d 5 (TrainRoute k) in
-        let fine : test i ≡ false = none_tried test (λ k. TrainRoute k) i (none_below (tried test (λ k. TrainRoute k)) (length d.trains) i none (slice_get_within d.trains i t e)) in
+        let fine : test i ≡ false =
+        none_tried test (λ k. TrainRoute k) i (none_below (tried test (λ k. TrainRoute k)) (length d.trains) i none (slice_get_within d.trains i t e)) in
         let short : ltb 129 (length t.route) ≡ false = rw e at fine in
         grind (arith, nat_tests)
 
@@ -44,7 +45,8 @@ arms_few d none i = at (slice_get d.boxes i) refl
     at None e = omega arith
     at (Some x) e =
         let test : ℕ → Bool = λ k. breaks d 7 (BoxArms k) in
-        let fine : test i ≡ false = none_tried test (λ k. BoxArms k) i (none_below (tried test (λ k. BoxArms k)) (length d.boxes) i none (slice_get_within d.boxes i x e)) in
+        let fine : test i ≡ false =
+        none_tried test (λ k. BoxArms k) i (none_below (tried test (λ k. BoxArms k)) (length d.boxes) i none (slice_get_within d.boxes i x e)) in
         let right : not (eqb (length x.arms) (arms_of x.kind)) ≡ false = rw e at fine in
         omega (arith, not_false _ _ right, four_arms x.kind)
 

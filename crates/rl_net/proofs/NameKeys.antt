@@ -19,7 +19,8 @@ abbrev pub names_of : List (Vec ℕ Global) → List (List ℕ)
 names_of keys = map (λ k. k.items) keys
 
 -- the first place at which a test passes, one item more
-position_cons : (b : Bool) (n m : ℕ) → cond (ltb (cond (not b) (1 + n) 0) (suc m)) (Some (cond (not b) (1 + n) 0)) None ≡ cond b (Some 0) (option_map suc (cond (ltb n m) (Some n) None))
+position_cons : (b : Bool) (n m : ℕ)
+    → cond (ltb (cond (not b) (1 + n) 0) (suc m)) (Some (cond (not b) (1 + n) 0)) None ≡ cond b (Some 0) (option_map suc (cond (ltb n m) (Some n) None))
 position_cons true n m = ap (λ t. cond t (Some 0) None) (lt-ltb 0 (suc m) (omega arith))
 position_cons false n m = at (ltb n m) (ltb (1 + n) (suc m)) (grind (arith, nat_tests))
   where
@@ -39,7 +40,8 @@ abbrev pub AreApart : List (Vec ℕ Global) → Type 0
 AreApart keys = IsDistinct (λ x y. bytes_eq x.items y.items) keys
 
 -- a key is apart from each later one
-apart_at : (key : Vec ℕ Global) (keys : List (Vec ℕ Global)) (i : ℕ) (k : Vec ℕ Global) → AllByRecursion (λ y. bytes_eq key.items y.items ≡ false) keys → slice_get keys i ≡ Some k → bytes_eq key.items k.items ≡ false
+apart_at : (key : Vec ℕ Global) (keys : List (Vec ℕ Global)) (i : ℕ) (k : Vec ℕ Global) → AllByRecursion (λ y. bytes_eq key.items y.items ≡ false) keys
+    → slice_get keys i ≡ Some k → bytes_eq key.items k.items ≡ false
 apart_at key [] i k h e = cc
 apart_at key (x ∷ keys) zero k h e = let same : x ≡ k = cc in subst (λ (y : Vec ℕ Global). bytes_eq key.items y.items ≡ false) same h.0
 apart_at key (x ∷ keys) (suc i) k h e = apart_at key keys i k h.1 e
@@ -56,7 +58,8 @@ number-at (x ∷ keys) (suc i) k apart e =
     let later = number-at keys i k (IsDistinct-tail _ x keys apart) e in
     rw (differs, later) refl
 
-pub number_of_key : (keys : List (Vec ℕ Global)) (i : ℕ) (k : Vec ℕ Global) (q : List ℕ) → AreApart keys → slice_get keys i ≡ Some k → k.items ≡ q → (i < length (names_of keys)) × (number_in (names_of keys) q ≡ Some i)
+pub number_of_key : (keys : List (Vec ℕ Global)) (i : ℕ) (k : Vec ℕ Global) (q : List ℕ) → AreApart keys → slice_get keys i ≡ Some k → k.items ≡ q
+    → (i < length (names_of keys)) × (number_in (names_of keys) q ≡ Some i)
 number_of_key keys i k q apart e same =
     let within = slice_get_within keys i k e in
     let count = length-map keys (λ (x : Vec ℕ Global). x.items) in
@@ -79,6 +82,7 @@ map_push : (keys : List (Vec ℕ Global)) (k : Vec ℕ Global) → names_of (key
 map_push [] k = refl
 map_push (x ∷ keys) k = ap (λ r. x.items ∷ r) (map_push keys k)
 
-pub names_added : (keys : List (Vec ℕ Global)) (k : Vec ℕ Global) → is_among (names_of keys) k.items ≡ false → names_of (insert_key (λ x y. bytes_eq x.items y.items) keys k) ≡ names_of keys ++ k.items ∷ []
+pub names_added : (keys : List (Vec ℕ Global)) (k : Vec ℕ Global) → is_among (names_of keys) k.items ≡ false
+    → names_of (insert_key (λ x y. bytes_eq x.items y.items) keys k) ≡ names_of keys ++ k.items ∷ []
 names_added keys k new =
     ap (λ b. names_of (cond b keys (keys ++ k ∷ []))) (any-among keys k.items ∙ new) ∙ map_push keys k

@@ -13,7 +13,8 @@ use Rattle.rl_net.specs.NameTables.{AreTablesOf}
 use Rattle.rl_net.specs.NamedNetwork.{IsNamed}
 
 -- what is read from things that are made from others
-read_made : {A B C : Type 0} (make : A → B) (read : B → C) (own : A → C) → ((x : A) → read (make x) ≡ own x) → (xs : List A) → map own xs ≡ map read (map make xs)
+read_made : {A B C : Type 0} (make : A → B) (read : B → C) (own : A → C) → ((x : A) → read (make x) ≡ own x) → (xs : List A)
+    → map own xs ≡ map read (map make xs)
 read_made make read own same [] = refl
 read_made make read own same (x ∷ xs) = ap₂ (λ y ys. y ∷ ys) (sym (same x)) (read_made make read own same xs)
 

@@ -15,7 +15,8 @@ cond_none false None e = (refl, refl)
 cond_none false (Some i) e = cc
 
 -- an item that has another name leaves the search going
-pub number_in_none : {X : Type 0} (f : X → List ℕ) (xs : List X) (i : ℕ) (x : X) (name : List ℕ) → number_in (map f (take i xs)) name ≡ None → i < length xs → x ≡ get_or xs i x → bytes_eq (f x) name ≡ false → number_in (map f (take (suc i) xs)) name ≡ None
+pub number_in_none : {X : Type 0} (f : X → List ℕ) (xs : List X) (i : ℕ) (x : X) (name : List ℕ) → number_in (map f (take i xs)) name ≡ None → i < length xs
+    → x ≡ get_or xs i x → bytes_eq (f x) name ≡ false → number_in (map f (take (suc i) xs)) name ≡ None
 number_in_none f [] i x name before lt e differs = absurd (omega arith)
 number_in_none f (y ∷ ys) zero x name before lt e differs =
     let same : bytes_eq (f y) name ≡ false = rw (← e) differs in
@@ -26,7 +27,8 @@ number_in_none f (y ∷ ys) (suc i) x name before lt e differs =
     rw (first.0, next) refl
 
 -- the first item that has the name ends it
-pub number_in_found : {X : Type 0} (f : X → List ℕ) (xs : List X) (i : ℕ) (x : X) (name : List ℕ) → number_in (map f (take i xs)) name ≡ None → i < length xs → x ≡ get_or xs i x → bytes_eq (f x) name ≡ true → number_in (map f xs) name ≡ Some i
+pub number_in_found : {X : Type 0} (f : X → List ℕ) (xs : List X) (i : ℕ) (x : X) (name : List ℕ) → number_in (map f (take i xs)) name ≡ None → i < length xs
+    → x ≡ get_or xs i x → bytes_eq (f x) name ≡ true → number_in (map f xs) name ≡ Some i
 number_in_found f [] i x name before lt e is = absurd (omega arith)
 number_in_found f (y ∷ ys) zero x name before lt e is =
     let same : bytes_eq (f y) name ≡ true = rw (← e) is in
@@ -37,7 +39,8 @@ number_in_found f (y ∷ ys) (suc i) x name before lt e is =
     rw (first.0, next) refl
 
 -- whether an earlier item has the name of this one
-pub is_twice_at : {X : Type 0} (f : X → List ℕ) (xs : List X) (i : ℕ) (x : X) → i < length xs → x ≡ get_or xs i x → is_twice (map f xs) i ≡ is_some (number_in (map f (take i xs)) (f x))
+pub is_twice_at : {X : Type 0} (f : X → List ℕ) (xs : List X) (i : ℕ) (x : X) → i < length xs → x ≡ get_or xs i x
+    → is_twice (map f xs) i ≡ is_some (number_in (map f (take i xs)) (f x))
 is_twice_at f xs i x lt e =
     let here = slice_get_read xs (length xs) i x refl lt e in
     let there : slice_get (map f xs) i ≡ Some (f x) = slice_get-map f xs i ∙ ap (option_map f) here in

@@ -20,28 +20,35 @@ at_next y ys None = refl
 at_next y ys (Some i) = refl
 
 -- the first box of a name stands at the number of the name
-find_named : (boxes : List DraftBox) (name : List ℕ) → find (λ (x : DraftBox). bytes_eq x.name name) boxes ≡ option_and_then (slice_get boxes) (number_in (map (λ (x : DraftBox). x.name) boxes) name)
+find_named : (boxes : List DraftBox) (name : List ℕ)
+    → find (λ (x : DraftBox). bytes_eq x.name name) boxes ≡ option_and_then (slice_get boxes) (number_in (map (λ (x : DraftBox). x.name) boxes) name)
 find_named [] name = refl
-find_named (y ∷ ys) name = step (bytes_eq y.name name) (find (λ (x : DraftBox). bytes_eq x.name name) ys) (number_in (map (λ (x : DraftBox). x.name) ys) name) (find_named ys name)
+find_named (y ∷ ys) name =
+    step (bytes_eq y.name name) (find (λ (x : DraftBox). bytes_eq x.name name) ys) (number_in (map (λ (x : DraftBox). x.name) ys) name) (find_named ys name)
   where
-    step : (b : Bool) (u : Option DraftBox) (o : Option ℕ) → u ≡ option_and_then (slice_get ys) o → cond b (Some y) u ≡ option_and_then (slice_get (y ∷ ys)) (cond b (Some 0) (option_map suc o))
+    step : (b : Bool) (u : Option DraftBox) (o : Option ℕ) → u ≡ option_and_then (slice_get ys) o
+        → cond b (Some y) u ≡ option_and_then (slice_get (y ∷ ys)) (cond b (Some 0) (option_map suc o))
     step true u o h = refl
     step false u o h = h ∙ sym (at_next y ys o)
 
 -- the box at a place of a route is the one of that number
-pub fits_at_box : (d : Draft) (route : List (List ℕ)) (j : ℕ) (name : List ℕ) (b : ℕ) (x : DraftBox) → slice_get route j ≡ Some name → Some b ≡ number_in (box_names d) name → slice_get d.boxes b ≡ Some x → fits_at d route j ≡ connects_names x (slice_get route (j - 1)) (slice_get route (j + 1))
+pub fits_at_box : (d : Draft) (route : List (List ℕ)) (j : ℕ) (name : List ℕ) (b : ℕ) (x : DraftBox) → slice_get route j ≡ Some name
+    → Some b ≡ number_in (box_names d) name → slice_get d.boxes b ≡ Some x
+    → fits_at d route j ≡ connects_names x (slice_get route (j - 1)) (slice_get route (j + 1))
 fits_at_box d route j name b x here number there =
     let named : box_named d name ≡ Some x = find_named d.boxes name ∙ ap (option_and_then (slice_get d.boxes)) (sym number) ∙ there in
     rw (here, named) refl
 
 -- a place that names no box fits nothing
-pub fits_at_none : (d : Draft) (route : List (List ℕ)) (j : ℕ) (name : List ℕ) → slice_get route j ≡ Some name → None ≡ number_in (box_names d) name → fits_at d route j ≡ false
+pub fits_at_none : (d : Draft) (route : List (List ℕ)) (j : ℕ) (name : List ℕ) → slice_get route j ≡ Some name → None ≡ number_in (box_names d) name
+    → fits_at d route j ≡ false
 fits_at_none d route j name here number =
     let named : box_named d name ≡ None = find_named d.boxes name ∙ ap (option_and_then (slice_get d.boxes)) (sym number) in
     rw (here, named) refl
 
 -- an earlier train starts where train i does
-pub start_is_shared : (d : Draft) (i : ℕ) (t : DraftTrain) (name : List ℕ) → slice_get d.trains i ≡ Some t → slice_get t.route 0 ≡ Some name → is_start (starts_below d i) name ≡ true → among_places_of d 15 i ≡ Some (RouteItem i 0)
+pub start_is_shared : (d : Draft) (i : ℕ) (t : DraftTrain) (name : List ℕ) → slice_get d.trains i ≡ Some t → slice_get t.route 0 ≡ Some name
+    → is_start (starts_below d i) name ≡ true → among_places_of d 15 i ≡ Some (RouteItem i 0)
 start_is_shared d i t name here first shared =
     let broken : breaks d 15 (RouteItem i 0) ≡ true = rw (here, first) shared in
     let some : 0 < route_length d i = rw here (slice_get_within t.route 0 name first) in
@@ -60,7 +67,8 @@ unbroken d i first (suc j) =
     rw later refl
 
 -- no earlier train starts where train i does
-pub start_is_own : (d : Draft) (i : ℕ) (t : DraftTrain) (name : List ℕ) → slice_get d.trains i ≡ Some t → slice_get t.route 0 ≡ Some name → is_start (starts_below d i) name ≡ false → among_places_of d 15 i ≡ None
+pub start_is_own : (d : Draft) (i : ℕ) (t : DraftTrain) (name : List ℕ) → slice_get d.trains i ≡ Some t → slice_get t.route 0 ≡ Some name
+    → is_start (starts_below d i) name ≡ false → among_places_of d 15 i ≡ None
 start_is_own d i t name here first own =
     let right : breaks d 15 (RouteItem i 0) ≡ false = rw (here, first) own in
     all_none (tried (λ j. breaks d 15 (RouteItem i j)) (λ j. RouteItem i j)) (λ j. rw (unbroken d i right j) refl) (route_length d i)

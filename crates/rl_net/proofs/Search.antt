@@ -32,7 +32,8 @@ tried_none test at i before here =
     let none : tried test at i ≡ None = rw here refl in
     first_below_none (tried test at) i before none
 
-pub tried_found : (test : ℕ → Bool) (at : ℕ → Place) (i n : ℕ) → first_below (tried test at) i ≡ None → test i ≡ true → i < n → first_below (tried test at) n ≡ Some (at i)
+pub tried_found : (test : ℕ → Bool) (at : ℕ → Place) (i n : ℕ) → first_below (tried test at) i ≡ None → test i ≡ true → i < n
+    → first_below (tried test at) n ≡ Some (at i)
 tried_found test at i n before here lt =
     let some : tried test at i ≡ Some (at i) = rw here refl in
     first_below_found (tried test at) i n (at i) before some lt
@@ -42,7 +43,8 @@ pub none_below : (f : ℕ → Option Place) (n i : ℕ) → first_below f n ≡ 
 none_below f zero i e lt = absurd (omega arith)
 none_below f (suc n) i e lt =
     let parts = both_none (first_below f n) (f n) e in
-    ⊎_elim (λ (l : i < n). none_below f n i parts.0 l) (λ (l : n ≤ i). let same : n ≡ i = omega arith in subst (λ (m : ℕ). f m ≡ None) same parts.1) (cases_lt i n)
+    ⊎_elim (λ (l : i < n). none_below f n i parts.0 l) (λ (l : n ≤ i). let same : n ≡ i = omega arith in
+    subst (λ (m : ℕ). f m ≡ None) same parts.1) (cases_lt i n)
   where
     both_none : (o u : Option Place) → option_or o u ≡ None → (o ≡ None) × (u ≡ None)
     both_none None u h = (refl, h)

@@ -16,4 +16,5 @@ module _ (d : Draft) (names : List (List ℕ)) (at : ℕ → Place) (n : ℕ) (r
   -- and else it is broken at the first that an earlier one is
   pub broken_by : (i : ℕ) → length names ≡ n → IsNameFault names (fault.Twice i) → first_below (λ i. broken_at d 6 (at i)) n ≡ Some (at i)
   broken_by i count h =
-      tried_found (λ k. breaks d 6 (at k)) at i n (nowhere (λ k. breaks d 6 (at k)) at i (λ j l. rule j ∙ h.2 j l)) (rule i ∙ h.1) (subst (λ m. i < m) count h.0)
+      tried_found (λ k. breaks d 6 (at k)) at i n (nowhere (λ k. breaks d 6 (at k)) at i (λ j l. rule j ∙ h.2 j l)) (rule i ∙ h.1)
+      (subst (λ m. i < m) count h.0)

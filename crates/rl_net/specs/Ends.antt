@@ -9,4 +9,5 @@ ends_kept es = record { low = slice_get es 0; high = slice_get es 1; more = is_s
 
 -- at the number of each of the names the table keeps that name's ends
 abbrev pub Keeps : List (List ℕ) → List Ends → (List ℕ → List SegmentEnd) → Type 0
-Keeps names table ends = (s : ℕ) (name : List ℕ) → slice_get names s ≡ Some name → slice_get table s ≡ Some (ends_kept (ends name))
+Keeps names table ends = (s : ℕ) (name : List ℕ) → slice_get names s ≡ Some name
+    → slice_get table s ≡ Some (ends_kept (ends name))

@@ -13,7 +13,8 @@ AreUnlike names = (i : ℕ) → is_twice names i ≡ false
 
 -- name i is the first that an earlier one is; want of memory says nothing
 abbrev pub IsNameFault : List (List ℕ) → NameFault → Type 0
-IsNameFault names (fault.Twice i) = (i < length names) × (is_twice names i ≡ true) × ((j : ℕ) → j < i → is_twice names j ≡ false)
+IsNameFault names (fault.Twice i) = (i < length names) × (is_twice names i ≡ true)
+    × ((j : ℕ) → j < i → is_twice names j ≡ false)
 IsNameFault names fault.NoMemory = Unit {0}
 
 -- the tables are those of the draft's segments, boxes and trains, no two of which have one name

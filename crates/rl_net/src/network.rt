@@ -76,7 +76,8 @@ impl Network {
     /// The two ends of a segment, that at the box with the lower number first.
     pub fn ends(&self, s: SegId) -> ((BoxId, Arm), (BoxId, Arm))
         requires there { IsSegmentOf self.now s }
-        ensures { option_map (λ g. ((g.low.at, g.low.arm), (g.high.at, g.high.arm))) (slice_get self.now.segments s.0) ≡ Some result }
+        ensures { option_map (λ g. ((g.low.at, g.low.arm), (g.high.at, g.high.arm))) (slice_get self.now.segments s.0)
+            ≡ Some result }
     {
         let segment = self.plan.segments.at(s.0 as usize);
         (

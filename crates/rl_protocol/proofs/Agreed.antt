@@ -22,7 +22,8 @@ use Rattle.rl_protocol.proofs.LockHolds.{locked_kept}
 pub known_of : (line : Line) (tries : ℕ) (s : State) (step : Step) → Agrees line tries s → Fits line s step → Known line s step
 known_of line tries s step old fits = known line s step old.mailboxes old.locks fits
 
-pub agrees_next : (line : Line) (tries : ℕ) (s : State) (step : Step) → IsConsistent line → Agrees line tries s → Fits line s step → Agrees line tries (next line s step)
+pub agrees_next : (line : Line) (tries : ℕ) (s : State) (step : Step) → IsConsistent line → Agrees line tries s → Fits line s step
+    → Agrees line tries (next line s step)
 agrees_next line tries s step laws old fits =
     let known = known_of line tries s step old fits in
     record {
@@ -42,7 +43,8 @@ agrees_next line tries s step laws old fits =
     }
 
 -- a place at which someone holds at the start is an arm
-first_free : (line : Line) (b x : ℕ) (o : Option TrainId) → IsConsistent line → ((t : ℕ) → is_held_by t o ≡ line.ends t 0 b x) → line.has_arm b x ≡ false → o ≡ None
+first_free : (line : Line) (b x : ℕ) (o : Option TrainId) → IsConsistent line → ((t : ℕ) → is_held_by t o ≡ line.ends t 0 b x) → line.has_arm b x ≡ false
+    → o ≡ None
 first_free line b x None laws first h = refl
 first_free line b x (Some u) laws first h = grind (arith, nat_tests, first u.0, laws.arms u.0 0 b x)
 

@@ -10,10 +10,13 @@ use Rattle.rl_protocol.specs.State.{State}
 use Rattle.rl_protocol.specs.Steps.{Step, Fits, next}
 use Rattle.rl_protocol.specs.Agreement.{AgreesOnAnswers, HasWhatIsAsked}
 
-other_kept : (line : Line) (s : State) (step : Step) (b : ℕ) (t u : TrainId) (l : Letter) → ((s.boxes b).work ≡ Say t l (answers.No u) → u.0 ≢ t.0) → Fits line s step → ((next line s step).boxes b).work ≡ Say t l (answers.No u) → u.0 ≢ t.0
+other_kept : (line : Line) (s : State) (step : Step) (b : ℕ) (t u : TrainId) (l : Letter) → ((s.boxes b).work ≡ Say t l (answers.No u) → u.0 ≢ t.0)
+    → Fits line s step → ((next line s step).boxes b).work ≡ Say t l (answers.No u) → u.0 ≢ t.0
 other_kept line s step b t u l old fits h = λ e. grind (arith, nat_tests)
 
-has_kept : (line : Line) (s : State) (step : Step) (b : ℕ) (t u : TrainId) (l : Letter) → ((s.boxes b).work ≡ Say t l (answers.No u) → HasWhatIsAsked s b l u l.verb) → Fits line s step → ((next line s step).boxes b).work ≡ Say t l (answers.No u) → HasWhatIsAsked (next line s step) b l u l.verb
+has_kept : (line : Line) (s : State) (step : Step) (b : ℕ) (t u : TrainId) (l : Letter)
+    → ((s.boxes b).work ≡ Say t l (answers.No u) → HasWhatIsAsked s b l u l.verb) → Fits line s step
+    → ((next line s step).boxes b).work ≡ Say t l (answers.No u) → HasWhatIsAsked (next line s step) b l u l.verb
 has_kept line s step b t u l old fits h = grind (arith, nat_tests)
 
 pub answers_kept : (line : Line) (s : State) (step : Step) → AgreesOnAnswers s → Fits line s step → AgreesOnAnswers (next line s step)

@@ -63,7 +63,8 @@ same_lock lock b v h = fun_ext (λ c. at c)
     at : (c : ℕ) → lock c ≡ put lock b v c
     at c = grind (arith, nat_tests)
 
-same_resv : (resv : ℕ → ℕ → Option TrainId) (b : ℕ) (v : ResvWord) → ((x : ℕ) → resv b x ≡ holder_in v x) → resv ≡ (λ c x. cond (c == b) (holder_in v x) (resv c x))
+same_resv : (resv : ℕ → ℕ → Option TrainId) (b : ℕ) (v : ResvWord) → ((x : ℕ) → resv b x ≡ holder_in v x)
+    → resv ≡ (λ c x. cond (c == b) (holder_in v x) (resv c x))
 same_resv resv b v h = fun_ext (λ c. fun_ext (λ x. at c x))
   where
     at : (c x : ℕ) → resv c x ≡ cond (c == b) (holder_in v x) (resv c x)
@@ -73,7 +74,8 @@ same_resv resv b v h = fun_ext (λ c. fun_ext (λ x. at c x))
 one_arm : (w : ResvWord) (x y : ℕ) (o : Option TrainId) → x < 4 → holder_in (with_arm w x o) y ≡ cond (y == x) o (holder_in w y)
 one_arm w x y o h = grind (arith, nat_tests)
 
-new_resv : (resv : ℕ → ℕ → Option TrainId) (b x : ℕ) (v : ResvWord) (o : Option TrainId) → x < 4 → ((y : ℕ) → resv b y ≡ holder_in v y) → put_at resv b x o ≡ (λ c y. cond (c == b) (holder_in (with_arm v x o) y) (resv c y))
+new_resv : (resv : ℕ → ℕ → Option TrainId) (b x : ℕ) (v : ResvWord) (o : Option TrainId) → x < 4 → ((y : ℕ) → resv b y ≡ holder_in v y)
+    → put_at resv b x o ≡ (λ c y. cond (c == b) (holder_in (with_arm v x o) y) (resv c y))
 new_resv resv b x v o four h = fun_ext (λ c. fun_ext (λ y. at c y))
   where
     at : (c y : ℕ) → put_at resv b x o c y ≡ cond (c == b) (holder_in (with_arm v x o) y) (resv c y)
@@ -89,7 +91,8 @@ few_arms Joint = omega arith
 few_arms Point = omega arith
 few_arms Crossing = omega arith
 
-module _ (tables : Tables) (s : State) (b : ℕ) (table : BoxTable) (line : IsLine tables) (there : slice_get tables.boxes b ≡ Some table) (number : table.number ≡ box b) where
+module _ (tables : Tables) (s : State) (b : ℕ) (table : BoxTable) (line : IsLine tables) (there : slice_get tables.boxes b ≡ Some table)
+    (number : table.number ≡ box b) where
   pub kind_is : (line_of tables).kind b ≡ table.kind
   kind_is = ap (λ o. option_map_or (λ (x : BoxTable). x.kind) o Buffer) there
 
@@ -101,35 +104,44 @@ module _ (tables : Tables) (s : State) (b : ℕ) (table : BoxTable) (line : IsLi
       shown None = refl
       shown (Some z) = refl
 
-  joins_is : (l : Letter) (side : Side) (answer : Bool) → arms_join table.kind l.x.0 l.y.0 side ≡ answer → arms_join ((line_of tables).kind b) l.x.0 l.y.0 side ≡ answer
+  joins_is : (l : Letter) (side : Side) (answer : Bool) → arms_join table.kind l.x.0 l.y.0 side ≡ answer
+      → arms_join ((line_of tables).kind b) l.x.0 l.y.0 side ≡ answer
   joins_is l side answer h = ap (λ k. arms_join k l.x.0 l.y.0 side) kind_is ∙ h
 
   names_is : (l : Letter) → l.to ≡ table.number → has_arms table l ≡ true → names_arms (line_of tables) l ≡ true
   names_is l to h =
       let parts = and_parts _ _ h in
       let at : l.to.0 ≡ b = ap (λ n. n.0) (to ∙ number) in
-      and_from _ _ (ap (λ n. (line_of tables).has_arm n l.x.0) at ∙ arm_is l.x.0 ∙ parts.0) (ap (λ n. (line_of tables).has_arm n l.y.0) at ∙ arm_is l.y.0 ∙ parts.1)
+      and_from _ _ (ap (λ n. (line_of tables).has_arm n l.x.0) at ∙ arm_is l.x.0 ∙ parts.0)
+      (ap (λ n. (line_of tables).has_arm n l.y.0) at ∙ arm_is l.y.0 ∙ parts.1)
 
   -- a letter in hand names one of four arms
-  pub four : (tries : ℕ) → Agrees (line_of tables) tries s → (t : TrainId) (l : Letter) (waiting : Option Path) → s.boxes b ≡ box_at (Serve t l) waiting → l.x.0 < 4
+  pub four : (tries : ℕ) → Agrees (line_of tables) tries s → (t : TrainId) (l : Letter) (waiting : Option Path) → s.boxes b ≡ box_at (Serve t l) waiting
+      → l.x.0 < 4
   four tries agrees t l waiting is =
       let has = taken (line_of tables) s b t.0 l agrees.mailboxes (agrees.mailboxes.serves b t l (ap (λ (m : BoxMind). m.work) is)) in
-      let arm = letter_arm (line_of tables) (row_of (line_of tables) t.0 (s.trains t.0)) (s.trains t.0).job l (row_arms (line_of tables) t.0 (s.trains t.0).step (consistent_line tables line) (waiting_within (line_of tables) tries s t.0 agrees has.waits)) has.letter in
+      let arm = letter_arm (line_of tables) (row_of (line_of tables) t.0 (s.trains t.0)) (s.trains t.0).job l
+      (row_arms (line_of tables) t.0 (s.trains t.0).step (consistent_line tables line) (waiting_within (line_of tables) tries s t.0 agrees has.waits))
+      has.letter in
       let below : l.x.0 < arms_of table.kind = ltb-true _ _ (sym (arm_is l.x.0) ∙ subst (λ n. (line_of tables).has_arm n l.x.0 ≡ true) has.to arm) in
       let few = few_arms table.kind in
       omega arith
 
-  at_resv : (v : ResvWord) (mind : BoxMind) → Makes (line_of tables) s (nodes.Box (box b)) (Resv (box b) v) (with_box s b mind) → Makes (line_of tables) s (nodes.Box (box b)) (Resv table.number v) (with_box s b mind)
+  at_resv : (v : ResvWord) (mind : BoxMind) → Makes (line_of tables) s (nodes.Box (box b)) (Resv (box b) v) (with_box s b mind)
+      → Makes (line_of tables) s (nodes.Box (box b)) (Resv table.number v) (with_box s b mind)
   at_resv v mind h = subst (λ n. Makes (line_of tables) s (nodes.Box (box b)) (Resv n v) (with_box s b mind)) (sym number) h
 
-  at_lock : (v : LockWord) (mind : BoxMind) → Makes (line_of tables) s (nodes.Box (box b)) (Lock (box b) v) (with_box s b mind) → Makes (line_of tables) s (nodes.Box (box b)) (Lock table.number v) (with_box s b mind)
+  at_lock : (v : LockWord) (mind : BoxMind) → Makes (line_of tables) s (nodes.Box (box b)) (Lock (box b) v) (with_box s b mind)
+      → Makes (line_of tables) s (nodes.Box (box b)) (Lock table.number v) (with_box s b mind)
   at_lock v mind h = subst (λ n. Makes (line_of tables) s (nodes.Box (box b)) (Lock n v) (with_box s b mind)) (sym number) h
 
   -- the state with the mind and one word written
-  written : (resv : ℕ → ℕ → Option TrainId) (lock : ℕ → LockWord) (m n : BoxMind) → m ≡ n → ◌≡◌ {A = State} (record s { boxes = put s.boxes b m; resv = resv; lock = lock }) (record s { boxes = put s.boxes b n; resv = resv; lock = lock })
+  written : (resv : ℕ → ℕ → Option TrainId) (lock : ℕ → LockWord) (m n : BoxMind) → m ≡ n
+      → ◌≡◌ {A = State} (record s { boxes = put s.boxes b m; resv = resv; lock = lock }) (record s { boxes = put s.boxes b n; resv = resv; lock = lock })
   written resv lock m n h = ap (λ x. record s { boxes = put s.boxes b x; resv = resv; lock = lock }) h
 
-  pub box_makes : (tries : ℕ) (before : BoxMind) (w v : Word) (mind : BoxMind) → Agrees (line_of tables) tries s → s.boxes b ≡ before → BoxStep table before w v mind → HasWord s w → Makes (line_of tables) s (nodes.Box (box b)) v (with_box s b mind)
+  pub box_makes : (tries : ℕ) (before : BoxMind) (w v : Word) (mind : BoxMind) → Agrees (line_of tables) tries s → s.boxes b ≡ before
+      → BoxStep table before w v mind → HasWord s w → Makes (line_of tables) s (nodes.Box (box b)) v (with_box s b mind)
   box_makes tries before w v mind agrees is (takes t l waiting to arms) has =
       record {
         step = take b t.0 l;
@@ -195,9 +207,11 @@ module _ (tables : Tables) (s : State) (b : ℕ) (table : BoxTable) (line : IsLi
   box_makes tries before w v mind agrees is (sees_moved p) has =
       moved_makes
     where
-      moved_makes : Makes (line_of tables) s (nodes.Box (box b)) (Lock table.number (Locked p)) (with_box s b (box_at (Say p.train (about_passage table.number verbs.Lock p.x p.y) answers.Yes) None))
+      moved_makes : Makes (line_of tables) s (nodes.Box (box b)) (Lock table.number (Locked p))
+          (with_box s b (box_at (Say p.train (about_passage table.number verbs.Lock p.x p.y) answers.Yes) None))
       moved_makes =
-          subst (λ n. Makes (line_of tables) s (nodes.Box (box b)) (Lock n (Locked p)) (with_box s b (box_at (Say p.train (about_passage n verbs.Lock p.x p.y) answers.Yes) None))) (sym number)
+          subst (λ n. Makes (line_of tables) s (nodes.Box (box b)) (Lock n (Locked p))
+          (with_box s b (box_at (Say p.train (about_passage n verbs.Lock p.x p.y) answers.Yes) None))) (sym number)
           (record {
             step = lock_moved b p;
             fits = (is, subst (λ n. s.lock n.0 ≡ Moved p) number has);
@@ -220,7 +234,8 @@ module _ (tables : Tables) (s : State) (b : ℕ) (table : BoxTable) (line : IsLi
         fits = (ap (λ (m : BoxMind). m.work) is, has);
         by_node = refl;
         on_word = refl;
-        leaves = ap (λ m. record s { boxes = put s.boxes b m; mail = put s.mail t.0 (mails.Yes l) }) (mind_with (s.boxes b) (Say t l answers.Yes) Ready waiting is);
+        leaves = ap (λ m. record s { boxes = put s.boxes b m; mail = put s.mail t.0 (mails.Yes l) })
+            (mind_with (s.boxes b) (Say t l answers.Yes) Ready waiting is);
       }
   box_makes tries before w v mind agrees is (says_refused t u l waiting verb) has =
       record {
@@ -228,7 +243,8 @@ module _ (tables : Tables) (s : State) (b : ℕ) (table : BoxTable) (line : IsLi
         fits = (ap (λ (m : BoxMind). m.work) is, subst IsRefusable (sym verb) tt, has);
         by_node = refl;
         on_word = refl;
-        leaves = ap (λ m. record s { boxes = put s.boxes b m; mail = put s.mail t.0 (mails.No l u) }) (mind_with (s.boxes b) (Say t l (answers.No u)) Ready waiting is);
+        leaves = ap (λ m. record s { boxes = put s.boxes b m; mail = put s.mail t.0 (mails.No l u) })
+            (mind_with (s.boxes b) (Say t l (answers.No u)) Ready waiting is);
       }
   box_makes tries before w v mind agrees is (says_barred t u l waiting verb) has =
       record {
@@ -236,7 +252,8 @@ module _ (tables : Tables) (s : State) (b : ℕ) (table : BoxTable) (line : IsLi
         fits = (ap (λ (m : BoxMind). m.work) is, subst IsRefusable (sym verb) tt, has);
         by_node = refl;
         on_word = refl;
-        leaves = ap (λ m. record s { boxes = put s.boxes b m; mail = put s.mail t.0 (mails.No l u) }) (mind_with (s.boxes b) (Say t l (answers.No u)) Ready waiting is);
+        leaves = ap (λ m. record s { boxes = put s.boxes b m; mail = put s.mail t.0 (mails.No l u) })
+            (mind_with (s.boxes b) (Say t l (answers.No u)) Ready waiting is);
       }
   box_makes tries before w v mind agrees is (is_busy t l p verb apart) has =
       let at : s.lock b ≡ Locked p = subst (λ n. s.lock n.0 ≡ Locked p) number has in

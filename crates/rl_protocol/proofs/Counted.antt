@@ -28,7 +28,8 @@ weight_for w t step = if about step == t then weight w step else 0
 Raises : Weights → Line → State → ℕ → Step → Type 0
 Raises w line s t step = (((next line s step).trains t).left ≡ (s.trains t).left) × (rank w s t + weight_for w t step ≤ rank w (next line s step) t)
 
-raised : (w : Weights) (line : Line) (s : State) (t : ℕ) (step : Step) → AgreesOnPassage s t → Fits line s step → Known line s step → opens s t step ≡ false → Raises w line s t step
+raised : (w : Weights) (line : Line) (s : State) (t : ℕ) (step : Step) → AgreesOnPassage s t → Fits line s step → Known line s step → opens s t step ≡ false
+    → Raises w line s t step
 unfolding Raises
 raised w line s t (post u l) passage fits known h = (grind (arith, nat_tests), grind (arith, nat_tests))
 raised w line s t (hear_yes u l) passage fits known h = (grind (arith, nat_tests), grind (arith, nat_tests, rank_heard))
@@ -55,9 +56,11 @@ raised w line s t (tail u k) passage fits known h = (grind (arith, nat_tests), g
 
 -- an attempt opens where none is open
 Opens : Weights → Line → State → ℕ → Step → Type 0
-Opens w line s t step = ((s.trains t).left ≡ ((next line s step).trains t).left + 1) × (rank w s t ≡ attempt_weight w) × (weight_for w t step ≤ rank w (next line s step) t)
+Opens w line s t step = ((s.trains t).left ≡ ((next line s step).trains t).left + 1) × (rank w s t ≡ attempt_weight w)
+    × (weight_for w t step ≤ rank w (next line s step) t)
 
-opened : (w : Weights) (line : Line) (s : State) (t u : ℕ) (l : Letter) → Fits line s (post u l) → Known line s (post u l) → opens s t (post u l) ≡ true → Opens w line s t (post u l)
+opened : (w : Weights) (line : Line) (s : State) (t u : ℕ) (l : Letter) → Fits line s (post u l) → Known line s (post u l) → opens s t (post u l) ≡ true
+    → Opens w line s t (post u l)
 unfolding Opens
 opened w line s t u l fits known h =
     (grind (arith, nat_tests), grind (arith, nat_tests), grind (arith, nat_tests))
@@ -83,15 +86,25 @@ bounded w line tries s t agrees = of (s.trains t).waits (passes (s.trains t).job
     in_mail l (Yes k) is h = let same : verb_weight w k.verb ≡ verb_weight w l.verb = ap (λ z. verb_weight w z.verb) h in omega arith
     in_mail l (No k u) is h = omega arith
 
-    of : (waits passing : Bool) → (s.trains t).waits ≡ waits → passes (s.trains t).job ≡ passing → cond waits (job_rank w (s.trains t).job + cond passing (run_rank w (s.tracks t).phase (s.run t)) (mail_rank w s t (s.mail t))) (ready_rank w (s.trains t).job) ≤ attempt_weight w
+    of : (waits passing : Bool) → (s.trains t).waits ≡ waits → passes (s.trains t).job ≡ passing
+        → cond waits (job_rank w (s.trains t).job + cond passing (run_rank w (s.tracks t).phase (s.run t)) (mail_rank w s t (s.mail t)))
+        (ready_rank w (s.trains t).job) ≤ attempt_weight w
     of false passing e f = rank_ready w (s.trains t).job
     of true true e f = omega (arith, rank_passing w (s.trains t).job f, run_bounded w (s.tracks t).phase (s.run t))
     of true false e f =
         let there = letter_there (s.trains t).job (line.row t (s.trains t).step) f in
-        omega (arith, rank_asking w (line.row t (s.trains t).step) (s.trains t).job there.0 there.1, in_mail there.0 (s.mail t) refl (agrees.mailboxes.letter t there.0 e there.1))
+        omega (
+          arith,
+          rank_asking w (line.row t (s.trains t).step) (s.trains t).job there.0 there.1,
+          in_mail there.0 (s.mail t) refl
+              (agrees.mailboxes.letter t there.0 e there.1),
+        )
 
 -- each step does either
-pub raised_or_opened : (w : Weights) (line : Line) (s : State) (t : ℕ) (step : Step) → AgreesOnPassage s t → Fits line s step → Known line s step → let m = (next line s step).trains t in ((m.left ≡ (s.trains t).left) × (rank w s t + weight_for w t step ≤ rank w (next line s step) t)) ⊎ (((s.trains t).left ≡ m.left + 1) × (rank w s t ≡ attempt_weight w) × (weight_for w t step ≤ rank w (next line s step) t))
+pub raised_or_opened : (w : Weights) (line : Line) (s : State) (t : ℕ) (step : Step) → AgreesOnPassage s t → Fits line s step → Known line s step
+    → let m = (next line s step).trains t in
+    ((m.left ≡ (s.trains t).left) × (rank w s t + weight_for w t step ≤ rank w (next line s step) t))
+    ⊎ (((s.trains t).left ≡ m.left + 1) × (rank w s t ≡ attempt_weight w) × (weight_for w t step ≤ rank w (next line s step) t))
 unfolding Raises Opens
 raised_or_opened w line s t (post u l) passage fits known =
     ⊎_elim (λ e. inr (opened w line s t u l fits known e)) (λ e. inl (raised w line s t (post u l) passage fits known e)) (cases_Bool (opens s t (post u l)))

@@ -19,7 +19,8 @@ HoldsOn line t k b x job l =
     holds_at (job_after_yes (line.row t k) job) (line.row t after) (line.ends t after b x) (line.ends t (after + 1) b x) b x
     ≡ held_after l.verb (at l.to l.x b x) (holds_at job (line.row t k) (line.ends t k b x) (line.ends t (k + 1) b x) b x)
 
-holds_on : (line : Line) (t k b x : ℕ) (job : Job) (l : Letter) → IsStepOf line t k (line.row t k) → letter_at job (line.row t k) ≡ Some l → HoldsOn line t k b x job l
+holds_on : (line : Line) (t k b x : ℕ) (job : Job) (l : Letter) → IsStepOf line t k (line.row t k) → letter_at job (line.row t k) ≡ Some l
+    → HoldsOn line t k b x job l
 unfolding HoldsOn letter_at holds_at job_after_yes finishes
 holds_on line t k b x jobs.Near l is h = grind (arith, nat_tests, is.here b x, is.ahead b x, is.apart b x)
 holds_on line t k b x jobs.Far l is h = grind (arith, nat_tests, is.here b x, is.ahead b x, is.apart b x)
@@ -49,16 +50,19 @@ locks_on line t k b x y jobs.DropFar l h = grind (arith, nat_tests)
 locks_on line t k b x y jobs.DropNear l h = grind (arith, nat_tests)
 
 -- with Yes a train holds and has locked what the letter has changed
-pub heard_holds : (line : Line) (t b x : ℕ) (m : TrainMind) (l : Letter) → IsConsistent line → m.step < line.steps t → letter_of line t m ≡ Some l → job_holds line t (heard line t m) b x ≡ held_after l.verb (at l.to l.x b x) (job_holds line t m b x)
+pub heard_holds : (line : Line) (t b x : ℕ) (m : TrainMind) (l : Letter) → IsConsistent line → m.step < line.steps t → letter_of line t m ≡ Some l
+    → job_holds line t (heard line t m) b x ≡ held_after l.verb (at l.to l.x b x) (job_holds line t m b x)
 unfolding HoldsOn
 heard_holds line t b x m l laws h is = holds_on line t m.step b x m.job l (laws.rows t m.step h) is
 
-pub heard_locks : (line : Line) (t b x y : ℕ) (m : TrainMind) (l : Letter) → letter_of line t m ≡ Some l → job_locks line t (heard line t m) b x y ≡ locked_after l.verb (at l.to l.x b x && l.y.0 == y) (job_locks line t m b x y)
+pub heard_locks : (line : Line) (t b x y : ℕ) (m : TrainMind) (l : Letter) → letter_of line t m ≡ Some l
+    → job_locks line t (heard line t m) b x y ≡ locked_after l.verb (at l.to l.x b x && l.y.0 == y) (job_locks line t m b x y)
 unfolding LocksOn
 heard_locks line t b x y m l is = locks_on line t m.step b x y m.job l is
 
 -- with No it is what it was
-pub denied_holds : (row : StepRow) (job new : Job) (here ahead : Bool) (b x : ℕ) → job_after_no row job ≡ Some new → holds_at new row here ahead b x ≡ holds_at job row here ahead b x
+pub denied_holds : (row : StepRow) (job new : Job) (here ahead : Bool) (b x : ℕ) → job_after_no row job ≡ Some new
+    → holds_at new row here ahead b x ≡ holds_at job row here ahead b x
 unfolding job_after_no holds_at
 denied_holds row jobs.Near new here ahead b x h = grind arith
 denied_holds row jobs.Far new here ahead b x h = grind arith
@@ -83,7 +87,8 @@ denied_locks row jobs.DropFar new b x y h = grind arith
 denied_locks row jobs.DropNear new b x y h = grind arith
 
 -- and after the passage too
-pub passed_holds : (row : StepRow) (job : Job) (here ahead : Bool) (b x : ℕ) → passes job ≡ true → holds_at (job_after_yes row job) row here ahead b x ≡ holds_at job row here ahead b x
+pub passed_holds : (row : StepRow) (job : Job) (here ahead : Bool) (b x : ℕ) → passes job ≡ true
+    → holds_at (job_after_yes row job) row here ahead b x ≡ holds_at job row here ahead b x
 unfolding passes job_after_yes holds_at
 passed_holds row jobs.Near here ahead b x h = cc
 passed_holds row jobs.Far here ahead b x h = cc

@@ -40,7 +40,9 @@ letter_there jobs.DropFar row h = (_, refl)
 letter_there jobs.DropNear row h = (_, refl)
 
 -- the place of its route at which a job stands is the same after Yes
-place_yes : (row : StepRow) (job : Job) (step : ℕ) → passes job ≡ false → cond (has_passed (job_after_yes row job)) (cond (finishes job) (step + 1) step + 1) (cond (finishes job) (step + 1) step) ≡ cond (has_passed job) (step + 1) step
+place_yes : (row : StepRow) (job : Job) (step : ℕ) → passes job ≡ false
+    → cond (has_passed (job_after_yes row job)) (cond (finishes job) (step + 1) step + 1) (cond (finishes job) (step + 1) step)
+    ≡ cond (has_passed job) (step + 1) step
 unfolding passes has_passed job_after_yes finishes
 place_yes row jobs.Near step h = refl
 place_yes row jobs.Far step h = refl
@@ -119,7 +121,8 @@ open_always jobs.DropFar h = refl
 open_always jobs.DropNear h = refl
 
 -- with Yes a step is made where the open attempt ends
-pub open_heard : (row : StepRow) (job : Job) (step : ℕ) → passes job ≡ false → cond (finishes job) (step + 1) step + cond (is_open (job_after_yes row job) false) 1 0 ≡ step + cond (is_open job true) 1 0
+pub open_heard : (row : StepRow) (job : Job) (step : ℕ) → passes job ≡ false
+    → cond (finishes job) (step + 1) step + cond (is_open (job_after_yes row job) false) 1 0 ≡ step + cond (is_open job true) 1 0
 unfolding passes finishes is_open job_after_yes
 open_heard row jobs.Near step h = refl
 open_heard row jobs.Far step h = refl

@@ -58,13 +58,19 @@ asking : (line : Line) (s : State) (t : ℕ) → AgreesOnMailboxes line s → (s
 asking line s t old full = grind (arith, nat_tests, old.empty t)
 
 -- a mailbox that carries its letter once it carries any carries this one
-waiting_for : (line : Line) (s : State) (t : ℕ) (l : Letter) → AgreesOnMailboxes line s → (s.mail t ≡ Empty → ⊥) → ((k : Letter) → Carries (s.mail t) k → l ≡ k) → Waits line s t l
+waiting_for : (line : Line) (s : State) (t : ℕ) (l : Letter) → AgreesOnMailboxes line s → (s.mail t ≡ Empty → ⊥) → ((k : Letter) → Carries (s.mail t) k → l ≡ k)
+    → Waits line s t l
 waiting_for line s t l old full same =
     let full : asks (s.trains t) ≡ true = asking line s t old full in
     let waits : (s.trains t).waits ≡ true = grind (arith, nat_tests) in
     let active : passes (s.trains t).job ≡ false = grind (arith, nat_tests) in
     let there = letter_there (s.trains t).job (line.row t (s.trains t).step) active in
-    record { waits = waits; active = active; letter = subst (λ k. letter_of line t (s.trains t) ≡ Some k) (sym (same there.0 (old.letter t there.0 waits there.1))) there.1 }
+    record {
+      waits = waits;
+      active = active;
+      letter =
+          subst (λ k. letter_of line t (s.trains t) ≡ Some k) (sym (same there.0 (old.letter t there.0 waits there.1))) there.1;
+    }
 
 pub asked : (line : Line) (s : State) (t : ℕ) (l : Letter) → AgreesOnMailboxes line s → s.mail t ≡ Ask l → Waits line s t l
 asked line s t l old h = waiting_for line s t l old (λ e. cc) (λ k c. subst (λ m. Carries m k) h c)
@@ -78,7 +84,8 @@ taken line s b t l old h =
     record { mail = h.0; to = h.1; waits = it.waits; active = it.active; letter = it.letter }
 
 -- box b waits for the path of a letter that it has taken
-pub taken_path : (line : Line) (s : State) (b : ℕ) (p : Path) → AgreesOnMailboxes line s → (s.boxes b).waiting ≡ Some p → HasTaken line s b p.train.0 (letter_of_path b p)
+pub taken_path : (line : Line) (s : State) (b : ℕ) (p : Path) → AgreesOnMailboxes line s → (s.boxes b).waiting ≡ Some p
+    → HasTaken line s b p.train.0 (letter_of_path b p)
 taken_path line s b p old h = taken line s b p.train.0 (letter_of_path b p) old (old.waits b p h, refl)
 
 -- a path that is none of train t
@@ -92,16 +99,28 @@ known line s (hear_yes t l) old locks fits = letter_not_passing (s.trains t).job
 known line s (hear_no t l u job) old locks fits = letter_not_passing (s.trains t).job _ l fits.1
 known line s (go t) old locks fits = old.empty t (grind (arith, nat_tests))
 known line s (quiet t) old locks fits = old.empty t (grind (arith, nat_tests))
-known line s (take b t l) old locks fits = (asked line s t l old fits.1, path_of_other t (s.boxes b).waiting (λ p h e. cc (old.waits b p h, ap s.mail e, fits.1)))
-known line s (grant b t l) old locks fits = (taken line s b t l old (old.serves b (train t) l fits.0), path_of_other t (s.boxes b).waiting (λ p h. old.serves_one b (train t) l p fits.0 h))
-known line s (refuse b t l u) old locks fits = (taken line s b t l old (old.serves b (train t) l fits.0), path_of_other t (s.boxes b).waiting (λ p h. old.serves_one b (train t) l p fits.0 h))
-known line s (release b t l) old locks fits = (taken line s b t l old (old.serves b (train t) l fits.0), path_of_other t (s.boxes b).waiting (λ p h. old.serves_one b (train t) l p fits.0 h))
+known line s (take b t l) old locks fits =
+    (asked line s t l old fits.1, path_of_other t (s.boxes b).waiting (λ p h e. cc (old.waits b p h, ap s.mail e, fits.1)))
+known line s (grant b t l) old locks fits =
+    (taken line s b t l old (old.serves b (train t) l fits.0), path_of_other t (s.boxes b).waiting (λ p h. old.serves_one b (train t) l p fits.0 h))
+known line s (refuse b t l u) old locks fits =
+    (taken line s b t l old (old.serves b (train t) l fits.0), path_of_other t (s.boxes b).waiting (λ p h. old.serves_one b (train t) l p fits.0 h))
+known line s (release b t l) old locks fits =
+    (taken line s b t l old (old.serves b (train t) l fits.0), path_of_other t (s.boxes b).waiting (λ p h. old.serves_one b (train t) l p fits.0 h))
 known line s (lock_now b t l side) old locks fits = taken line s b t l old (old.serves b (train t) l (ap (λ m. m.work) fits.0))
 known line s (lock_ask b t l side) old locks fits = taken line s b t l old (old.serves b (train t) l (ap (λ m. m.work) fits.0))
 known line s (lock_moved b p) old locks fits = taken_path line s b p old (ap (λ m. m.waiting) fits.0)
 known line s (unlock b t l side) old locks fits = taken line s b t l old (old.serves b (train t) l (ap (λ m. m.work) fits.0))
-known line s (say_yes b t l) old locks fits = (taken line s b t l old (old.says b (train t) l answers.Yes fits.0), path_of_other t (s.boxes b).waiting (λ p h. old.says_one b (train t) l answers.Yes p fits.0 h))
-known line s (say_no b t l u) old locks fits = (taken line s b t l old (old.says b (train t) l (answers.No u) fits.0), path_of_other t (s.boxes b).waiting (λ p h. old.says_one b (train t) l (answers.No u) p fits.0 h))
+known line s (say_yes b t l) old locks fits = (
+  taken line s b t l old (old.says b (train t) l answers.Yes fits.0),
+  path_of_other t (s.boxes b).waiting
+      (λ p h. old.says_one b (train t) l answers.Yes p fits.0 h),
+)
+known line s (say_no b t l u) old locks fits = (
+  taken line s b t l old (old.says b (train t) l (answers.No u) fits.0),
+  path_of_other t (s.boxes b).waiting
+      (λ p h. old.says_one b (train t) l (answers.No u) p fits.0 h),
+)
 known line s (busy b t l p) old locks fits = taken line s b t l old (old.serves b (train t) l (ap (λ m. m.work) fits.0))
 known line s (throw b p) old locks fits =
     let waits : (s.boxes b).waiting ≡ Some p = locks.waiting b ∙ ap path_in_setting fits in

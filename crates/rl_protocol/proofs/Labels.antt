@@ -35,22 +35,27 @@ use Rattle.rl_protocol.specs.TableLine.{no_row, line_of}
 use Rattle.rl_protocol.specs.Sentences.{HasWord, with_train, with_track, Makes}
 
 -- the row and the number of steps of a train that is there
-row_is : (tables : Tables) (t : ℕ) (table : TrainTable) (mind : TrainMind) (row : StepRow) → slice_get tables.trains t ≡ Some table → slice_get table.rows mind.step ≡ Some row → row_of (line_of tables) t mind ≡ row
+row_is : (tables : Tables) (t : ℕ) (table : TrainTable) (mind : TrainMind) (row : StepRow) → slice_get tables.trains t ≡ Some table
+    → slice_get table.rows mind.step ≡ Some row → row_of (line_of tables) t mind ≡ row
 row_is tables t table mind row e f =
     ap (λ o. unwrap_or (option_and_then (λ (x : TrainTable). slice_get x.rows mind.step) o) no_row) e ∙ ap (λ o. unwrap_or o no_row) f
 
 steps_are : (tables : Tables) (t : ℕ) (table : TrainTable) → slice_get tables.trains t ≡ Some table → (line_of tables).steps t ≡ length table.rows
 steps_are tables t table e = ap (λ o. option_map_or (λ (x : TrainTable). length x.rows) o 0) e
 
-resting_is : (tables : Tables) (t : ℕ) (table : TrainTable) (mind : TrainMind) → slice_get tables.trains t ≡ Some table → is_resting table mind ≡ false → at_rest (line_of tables) t mind ≡ false
+resting_is : (tables : Tables) (t : ℕ) (table : TrainTable) (mind : TrainMind) → slice_get tables.trains t ≡ Some table → is_resting table mind ≡ false
+    → at_rest (line_of tables) t mind ≡ false
 unfolding begins
-resting_is tables t table mind e h = ap (λ n. not mind.waits && begins mind.job && (mind.step == n || mind.left == 0)) (steps_are tables t table e) ∙ turned (not mind.waits) (begins mind.job) (mind.step == length table.rows || mind.left == 0) h
+resting_is tables t table mind e h =
+    ap (λ n. not mind.waits && begins mind.job && (mind.step == n || mind.left == 0)) (steps_are tables t table e)
+    ∙ turned (not mind.waits) (begins mind.job) (mind.step == length table.rows || mind.left == 0) h
   where
     turned : (x y z : Bool) → (y && (x && z)) ≡ false → (x && y && z) ≡ false
     turned x y z h = grind arith
 
 module _ (tables : Tables) (s : State) (t : ℕ) (table : TrainTable) (there : slice_get tables.trains t ≡ Some table) (number : table.number ≡ train t) where
-  letter_is : (row : StepRow) (l : Letter) → slice_get table.rows (s.trains t).step ≡ Some row → letter_at (s.trains t).job row ≡ Some l → letter_of (line_of tables) t (s.trains t) ≡ Some l
+  letter_is : (row : StepRow) (l : Letter) → slice_get table.rows (s.trains t).step ≡ Some row → letter_at (s.trains t).job row ≡ Some l
+      → letter_of (line_of tables) t (s.trains t) ≡ Some l
   letter_is row l e f = ap (letter_at (s.trains t).job) (row_is tables t table (s.trains t) row there e) ∙ f
 
   heard_is : (row : StepRow) → slice_get table.rows (s.trains t).step ≡ Some row → heard (line_of tables) t (s.trains t) ≡ trains.heard row (s.trains t)
@@ -69,10 +74,12 @@ module _ (tables : Tables) (s : State) (t : ℕ) (table : TrainTable) (there : s
   unfolding passes
   passes_is h = ap is_pass h
 
-  mail_makes : (v : MailWord) (mind : TrainMind) → Makes (line_of tables) s (nodes.Train (train t)) (Mail (train t) v) (with_train s t mind) → Makes (line_of tables) s (nodes.Train (train t)) (Mail table.number v) (with_train s t mind)
+  mail_makes : (v : MailWord) (mind : TrainMind) → Makes (line_of tables) s (nodes.Train (train t)) (Mail (train t) v) (with_train s t mind)
+      → Makes (line_of tables) s (nodes.Train (train t)) (Mail table.number v) (with_train s t mind)
   mail_makes v mind h = subst (λ n. Makes (line_of tables) s (nodes.Train (train t)) (Mail n v) (with_train s t mind)) (sym number) h
 
-  pub train_makes : (w v : Word) (mind : TrainMind) → TrainStep table (s.trains t) w v mind → HasWord s w → Makes (line_of tables) s (nodes.Train (train t)) v (with_train s t mind)
+  pub train_makes : (w v : Word) (mind : TrainMind) → TrainStep table (s.trains t) w v mind → HasWord s w
+      → Makes (line_of tables) s (nodes.Train (train t)) v (with_train s t mind)
   unfolding letter_at job_after_no
   train_makes w v mind (posts row l is letter waits rest) has =
       mail_makes (mails.Ask l) mind
@@ -96,7 +103,13 @@ module _ (tables : Tables) (s : State) (t : ℕ) (table : TrainTable) (there : s
       mail_makes mails.Empty mind
       (record {
         step = hear_no t l holder job;
-        fits = (waits, letter_is row l is letter, subst (λ n. s.mail n.0 ≡ mails.No l holder) number has, ap (λ r. job_after_no r (s.trains t).job) (row_is tables t table (s.trains t) row there is) ∙ after);
+        fits = (
+          waits,
+          letter_is row l is letter,
+          subst (λ n. s.mail n.0 ≡ mails.No l holder) number has,
+          ap (λ r. job_after_no r (s.trains t).job)
+              (row_is tables t table (s.trains t) row there is) ∙ after,
+        );
         by_node = refl;
         on_word = refl;
         leaves = refl;
@@ -121,12 +134,14 @@ module _ (tables : Tables) (s : State) (t : ℕ) (table : TrainTable) (there : s
       })
 
 -- a track has no table, nor has a machine
-pub track_makes : (line : Line) (s : State) (t : ℕ) (before : TrackMind) (w v : Word) (mind : TrackMind) → s.tracks t ≡ before → TrackStep (train t) before w v mind → HasWord s w → Makes line s (nodes.Track (train t)) v (with_track s t mind)
+pub track_makes : (line : Line) (s : State) (t : ℕ) (before : TrackMind) (w v : Word) (mind : TrackMind) → s.tracks t ≡ before
+    → TrackStep (train t) before w v mind → HasWord s w → Makes line s (nodes.Track (train t)) v (with_track s t mind)
 track_makes line s t before w v mind is (enters k) has = record { step = enter t k; fits = (is, has); by_node = refl; on_word = refl; leaves = refl }
 track_makes line s t before w v mind is (heads k) has = record { step = head t k; fits = (is, has); by_node = refl; on_word = refl; leaves = refl }
 track_makes line s t before w v mind is (leaves_it k) has = record { step = leave t k; fits = (is, has); by_node = refl; on_word = refl; leaves = refl }
 track_makes line s t before w v mind is (tails k) has = record { step = tail t k; fits = (is, has); by_node = refl; on_word = refl; leaves = refl }
 
-pub machine_makes : (line : Line) (s : State) (b : ℕ) (before mind : MachineMind) (w v : Word) → MachineStep (box b) before w v mind → HasWord s w → Makes line s (nodes.Machine (box b)) v s
+pub machine_makes : (line : Line) (s : State) (b : ℕ) (before mind : MachineMind) (w v : Word) → MachineStep (box b) before w v mind → HasWord s w
+    → Makes line s (nodes.Machine (box b)) v s
 machine_makes line s b before mind w v (throws m p) has = record { step = throw b p; fits = has; by_node = refl; on_word = refl; leaves = refl }
 machine_makes line s b before mind w v (settles m p) has = record { step = settle b p; fits = has; by_node = refl; on_word = refl; leaves = refl }

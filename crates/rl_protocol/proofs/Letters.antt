@@ -15,10 +15,12 @@ use Rattle.rl_protocol.specs.Held.{job_holds}
 use Rattle.rl_protocol.specs.Agreement.{place_of}
 
 -- the places of a row are ends of its segments, and so arms
-pub here_at : (line : Line) (t k : ℕ) → IsStepOf line t k (line.row t k) → let row = line.row t k in (line.ends t k row.b.0 row.x.0 ≡ true) × (line.ends t k row.a.0 row.a_arm.0 ≡ true)
+pub here_at : (line : Line) (t k : ℕ) → IsStepOf line t k (line.row t k) → let row = line.row t k in
+    (line.ends t k row.b.0 row.x.0 ≡ true) × (line.ends t k row.a.0 row.a_arm.0 ≡ true)
 here_at line t k is = let row = line.row t k in (grind (arith, nat_tests, is.here row.b.0 row.x.0), grind (arith, nat_tests, is.here row.a.0 row.a_arm.0))
 
-pub ahead_at : (line : Line) (t k : ℕ) → IsStepOf line t k (line.row t k) → let row = line.row t k in (line.ends t (k + 1) row.b.0 row.y.0 ≡ true) × (line.ends t (k + 1) row.c.0 row.c_arm.0 ≡ true)
+pub ahead_at : (line : Line) (t k : ℕ) → IsStepOf line t k (line.row t k) → let row = line.row t k in
+    (line.ends t (k + 1) row.b.0 row.y.0 ≡ true) × (line.ends t (k + 1) row.c.0 row.c_arm.0 ≡ true)
 ahead_at line t k is = let row = line.row t k in (grind (arith, nat_tests, is.ahead row.b.0 row.y.0), grind (arith, nat_tests, is.ahead row.c.0 row.c_arm.0))
 
 pub record HasArms (line : Line) (row : StepRow) : Type 0 where
@@ -52,19 +54,25 @@ letter_arm line row jobs.DropFar l arms is = grind arith
 letter_arm line row jobs.DropNear l arms is = grind arith
 
 -- what a train releases isn't where it stands
-released_off : (line : Line) (t k : ℕ) (job : Job) (l : Letter) → IsStepOf line t k (line.row t k) → letter_at job (line.row t k) ≡ Some l → l.verb ≡ verbs.Release → line.ends t (cond (has_passed job) (k + 1) k) l.to.0 l.x.0 ≡ false
+released_off : (line : Line) (t k : ℕ) (job : Job) (l : Letter) → IsStepOf line t k (line.row t k) → letter_at job (line.row t k) ≡ Some l
+    → l.verb ≡ verbs.Release → line.ends t (cond (has_passed job) (k + 1) k) l.to.0 l.x.0 ≡ false
 unfolding letter_at has_passed
 released_off line t k jobs.Near l is h verb = grind arith
 released_off line t k jobs.Far l is h verb = grind arith
 released_off line t k jobs.Lock l is h verb = grind arith
 released_off line t k jobs.Pass l is h verb = grind arith
 released_off line t k jobs.Unlock l is h verb = grind arith
-released_off line t k jobs.FreeNear l is h verb = let row = line.row t k in let there = (here_at line t k is).0 in let none = is.apart row.b.0 row.x.0 there in grind arith
-released_off line t k jobs.FreeFar l is h verb = let row = line.row t k in let there = (here_at line t k is).1 in let none = is.apart row.a.0 row.a_arm.0 there in grind arith
-released_off line t k jobs.DropFar l is h verb = let row = line.row t k in let there = (ahead_at line t k is).1 in let none = is.apart row.c.0 row.c_arm.0 in grind arith
-released_off line t k jobs.DropNear l is h verb = let row = line.row t k in let there = (ahead_at line t k is).0 in let none = is.apart row.b.0 row.y.0 in grind arith
+released_off line t k jobs.FreeNear l is h verb = let row = line.row t k in let there = (here_at line t k is).0 in let none = is.apart row.b.0 row.x.0 there in
+    grind arith
+released_off line t k jobs.FreeFar l is h verb = let row = line.row t k in let there = (here_at line t k is).1 in
+    let none = is.apart row.a.0 row.a_arm.0 there in grind arith
+released_off line t k jobs.DropFar l is h verb = let row = line.row t k in let there = (ahead_at line t k is).1 in let none = is.apart row.c.0 row.c_arm.0 in
+    grind arith
+released_off line t k jobs.DropNear l is h verb = let row = line.row t k in let there = (ahead_at line t k is).0 in let none = is.apart row.b.0 row.y.0 in
+    grind arith
 
-pub letter_off : (line : Line) (t : ℕ) (m : TrainMind) (l : Letter) → IsConsistent line → m.step < line.steps t → letter_of line t m ≡ Some l → l.verb ≡ verbs.Release → line.ends t (place_of m) l.to.0 l.x.0 ≡ false
+pub letter_off : (line : Line) (t : ℕ) (m : TrainMind) (l : Letter) → IsConsistent line → m.step < line.steps t → letter_of line t m ≡ Some l
+    → l.verb ≡ verbs.Release → line.ends t (place_of m) l.to.0 l.x.0 ≡ false
 letter_off line t m l laws h is verb = released_off line t m.step m.job l (laws.rows t m.step h) is verb
 
 -- who asks for a lock asks it at the box of its step, holds both segments, and has no lock yet
@@ -145,7 +153,8 @@ passing_locks row jobs.DropFar b x y h = cc
 passing_locks row jobs.DropNear b x y h = cc
 
 -- what a train asks to reserve it doesn't hold, and what it releases it holds
-reserve_new : (line : Line) (t k : ℕ) (job : Job) (l : Letter) → IsStepOf line t k (line.row t k) → letter_at job (line.row t k) ≡ Some l → l.verb ≡ verbs.Reserve → holds_at job (line.row t k) (line.ends t k l.to.0 l.x.0) (line.ends t (k + 1) l.to.0 l.x.0) l.to.0 l.x.0 ≡ false
+reserve_new : (line : Line) (t k : ℕ) (job : Job) (l : Letter) → IsStepOf line t k (line.row t k) → letter_at job (line.row t k) ≡ Some l
+    → l.verb ≡ verbs.Reserve → holds_at job (line.row t k) (line.ends t k l.to.0 l.x.0) (line.ends t (k + 1) l.to.0 l.x.0) l.to.0 l.x.0 ≡ false
 unfolding letter_at holds_at
 reserve_new line t k jobs.Near l is h verb = grind (arith, nat_tests, is.ahead l.to.0 l.x.0, is.apart l.to.0 l.x.0)
 reserve_new line t k jobs.Far l is h verb = grind (arith, nat_tests, is.ahead l.to.0 l.x.0, is.apart l.to.0 l.x.0)
@@ -157,7 +166,8 @@ reserve_new line t k jobs.FreeFar l is h verb = grind arith
 reserve_new line t k jobs.DropFar l is h verb = grind arith
 reserve_new line t k jobs.DropNear l is h verb = grind arith
 
-release_old : (line : Line) (t k : ℕ) (job : Job) (l : Letter) → IsStepOf line t k (line.row t k) → letter_at job (line.row t k) ≡ Some l → l.verb ≡ verbs.Release → holds_at job (line.row t k) (line.ends t k l.to.0 l.x.0) (line.ends t (k + 1) l.to.0 l.x.0) l.to.0 l.x.0 ≡ true
+release_old : (line : Line) (t k : ℕ) (job : Job) (l : Letter) → IsStepOf line t k (line.row t k) → letter_at job (line.row t k) ≡ Some l
+    → l.verb ≡ verbs.Release → holds_at job (line.row t k) (line.ends t k l.to.0 l.x.0) (line.ends t (k + 1) l.to.0 l.x.0) l.to.0 l.x.0 ≡ true
 unfolding letter_at holds_at
 release_old line t k jobs.Near l is h verb = grind arith
 release_old line t k jobs.Far l is h verb = grind arith
@@ -169,8 +179,10 @@ release_old line t k jobs.FreeFar l is h verb = grind (arith, nat_tests, is.here
 release_old line t k jobs.DropFar l is h verb = grind (arith, nat_tests, is.here l.to.0 l.x.0, is.ahead l.to.0 l.x.0)
 release_old line t k jobs.DropNear l is h verb = grind (arith, nat_tests, is.here l.to.0 l.x.0, is.ahead l.to.0 l.x.0)
 
-pub reserves_new : (line : Line) (t : ℕ) (m : TrainMind) (l : Letter) → IsConsistent line → m.step < line.steps t → letter_of line t m ≡ Some l → l.verb ≡ verbs.Reserve → job_holds line t m l.to.0 l.x.0 ≡ false
+pub reserves_new : (line : Line) (t : ℕ) (m : TrainMind) (l : Letter) → IsConsistent line → m.step < line.steps t → letter_of line t m ≡ Some l
+    → l.verb ≡ verbs.Reserve → job_holds line t m l.to.0 l.x.0 ≡ false
 reserves_new line t m l laws h is verb = reserve_new line t m.step m.job l (laws.rows t m.step h) is verb
 
-pub releases_old : (line : Line) (t : ℕ) (m : TrainMind) (l : Letter) → IsConsistent line → m.step < line.steps t → letter_of line t m ≡ Some l → l.verb ≡ verbs.Release → job_holds line t m l.to.0 l.x.0 ≡ true
+pub releases_old : (line : Line) (t : ℕ) (m : TrainMind) (l : Letter) → IsConsistent line → m.step < line.steps t → letter_of line t m ≡ Some l
+    → l.verb ≡ verbs.Release → job_holds line t m l.to.0 l.x.0 ≡ true
 releases_old line t m l laws h is verb = release_old line t m.step m.job l (laws.rows t m.step h) is verb

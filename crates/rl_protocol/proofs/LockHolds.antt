@@ -13,10 +13,13 @@ use Rattle.rl_protocol.proofs.Known.{Known}
 use Rattle.rl_protocol.proofs.JobHolds.{heard_locks, denied_locks, passed_locks}
 
 -- with Yes the train's job says what its letter has changed
-locked_heard : (line : Line) (s : State) (t : ℕ) (l : Letter) (u c i j : ℕ) → is_locked_by (s.lock c) u i j ≡ has_lock line s u c i j → s.mail t ≡ Yes l → job_locks line t (heard line t (s.trains t)) c i j ≡ locked_after l.verb (at l.to l.x c i && l.y.0 == j) (job_locks line t (s.trains t) c i j) → is_locked_by ((next line s (hear_yes t l)).lock c) u i j ≡ has_lock line (next line s (hear_yes t l)) u c i j
+locked_heard : (line : Line) (s : State) (t : ℕ) (l : Letter) (u c i j : ℕ) → is_locked_by (s.lock c) u i j ≡ has_lock line s u c i j → s.mail t ≡ Yes l
+    → job_locks line t (heard line t (s.trains t)) c i j ≡ locked_after l.verb (at l.to l.x c i && l.y.0 == j) (job_locks line t (s.trains t) c i j)
+    → is_locked_by ((next line s (hear_yes t l)).lock c) u i j ≡ has_lock line (next line s (hear_yes t l)) u c i j
 locked_heard line s t l u c i j old mail same = grind (arith, nat_tests)
 
-pub locked_kept : (line : Line) (s : State) (step : Step) (u c i j : ℕ) → is_locked_by (s.lock c) u i j ≡ has_lock line s u c i j → Fits line s step → Known line s step → is_locked_by ((next line s step).lock c) u i j ≡ has_lock line (next line s step) u c i j
+pub locked_kept : (line : Line) (s : State) (step : Step) (u c i j : ℕ) → is_locked_by (s.lock c) u i j ≡ has_lock line s u c i j → Fits line s step
+    → Known line s step → is_locked_by ((next line s step).lock c) u i j ≡ has_lock line (next line s step) u c i j
 locked_kept line s (post t l) u c i j old fits known = grind (arith, nat_tests)
 locked_kept line s (hear_yes t l) u c i j old fits known = locked_heard line s t l u c i j old fits.2 (heard_locks line t c i j (s.trains t) l fits.1)
 locked_kept line s (hear_no t l w job) u c i j old fits known = grind (arith, nat_tests, denied_locks)

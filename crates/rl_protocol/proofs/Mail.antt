@@ -19,17 +19,22 @@ use Rattle.rl_protocol.specs.Agreement.{asks, Carries, IsAtWork, AgreesOnMailbox
 use Rattle.rl_protocol.proofs.Jobs.{letter_not_passing}
 use Rattle.rl_protocol.proofs.Known.{Known, HasTaken}
 
-empty_kept : (line : Line) (s : State) (step : Step) (t : ℕ) → (asks (s.trains t) ≡ false → s.mail t ≡ Empty) → Fits line s step → asks ((next line s step).trains t) ≡ false → (next line s step).mail t ≡ Empty
+empty_kept : (line : Line) (s : State) (step : Step) (t : ℕ) → (asks (s.trains t) ≡ false → s.mail t ≡ Empty) → Fits line s step
+    → asks ((next line s step).trains t) ≡ false → (next line s step).mail t ≡ Empty
 empty_kept line s step t old fits h = grind (arith, nat_tests, letter_not_passing)
 
-letter_kept : (line : Line) (s : State) (step : Step) (t : ℕ) (l : Letter) → ((s.trains t).waits ≡ true → letter_of line t (s.trains t) ≡ Some l → Carries (s.mail t) l) → Fits line s step → Known line s step → ((next line s step).trains t).waits ≡ true → letter_of line t ((next line s step).trains t) ≡ Some l → Carries ((next line s step).mail t) l
+letter_kept : (line : Line) (s : State) (step : Step) (t : ℕ) (l : Letter)
+    → ((s.trains t).waits ≡ true → letter_of line t (s.trains t) ≡ Some l → Carries (s.mail t) l) → Fits line s step → Known line s step
+    → ((next line s step).trains t).waits ≡ true → letter_of line t ((next line s step).trains t) ≡ Some l → Carries ((next line s step).mail t) l
 letter_kept line s step t l old fits known h k = grind (arith, nat_tests, letter_not_passing)
 
 -- who asks for a path
 asked_letter : (b t : ℕ) (l : Letter) → l.to.0 ≡ b → l.verb ≡ verbs.Lock → l ≡ letter_of_path b (path_of (train t) l)
 asked_letter b t l to verb = grind arith
 
-asked_kept : (line : Line) (s : State) (b t' : ℕ) (l' : Letter) (side : Side) (t : ℕ) (l : Letter) → (s.mail t ≡ Taken l → IsAtWork (s.boxes l.to.0) l.to.0 t l) → Fits line s (lock_ask b t' l' side) → HasTaken line s b t' l' → (next line s (lock_ask b t' l' side)).mail t ≡ Taken l → IsAtWork ((next line s (lock_ask b t' l' side)).boxes l.to.0) l.to.0 t l
+asked_kept : (line : Line) (s : State) (b t' : ℕ) (l' : Letter) (side : Side) (t : ℕ) (l : Letter) → (s.mail t ≡ Taken l → IsAtWork (s.boxes l.to.0) l.to.0 t l)
+    → Fits line s (lock_ask b t' l' side) → HasTaken line s b t' l' → (next line s (lock_ask b t' l' side)).mail t ≡ Taken l
+    → IsAtWork ((next line s (lock_ask b t' l' side)).boxes l.to.0) l.to.0 t l
 asked_kept line s b t' l' side t l old fits known h =
     ⊎_elim
     (λ e.
@@ -42,7 +47,8 @@ asked_kept line s b t' l' side t l old fits known h =
     (λ e. grind (arith, nat_tests))
     (cases_eq t t')
 
-taken_kept : (line : Line) (s : State) (step : Step) (t : ℕ) (l : Letter) → (s.mail t ≡ Taken l → IsAtWork (s.boxes l.to.0) l.to.0 t l) → Fits line s step → Known line s step → (next line s step).mail t ≡ Taken l → IsAtWork ((next line s step).boxes l.to.0) l.to.0 t l
+taken_kept : (line : Line) (s : State) (step : Step) (t : ℕ) (l : Letter) → (s.mail t ≡ Taken l → IsAtWork (s.boxes l.to.0) l.to.0 t l) → Fits line s step
+    → Known line s step → (next line s step).mail t ≡ Taken l → IsAtWork ((next line s step).boxes l.to.0) l.to.0 t l
 taken_kept line s (post t' l') t l old fits known h = grind (arith, nat_tests)
 taken_kept line s (hear_yes t' l') t l old fits known h = grind (arith, nat_tests)
 taken_kept line s (hear_no t' l' u job) t l old fits known h = grind (arith, nat_tests)
@@ -70,16 +76,19 @@ module _ (line : Line) (s : State) (step : Step) (old : AgreesOnMailboxes line s
   serves_kept : (b : ℕ) (t : TrainId) (l : Letter) → ((next line s step).boxes b).work ≡ Serve t l → ((next line s step).mail t.0 ≡ Taken l) × (l.to.0 ≡ b)
   serves_kept b t l h = grind (arith, nat_tests, old.serves b t l)
 
-  says_kept : (b : ℕ) (t : TrainId) (l : Letter) (a : Answer) → ((next line s step).boxes b).work ≡ Say t l a → ((next line s step).mail t.0 ≡ Taken l) × (l.to.0 ≡ b)
+  says_kept : (b : ℕ) (t : TrainId) (l : Letter) (a : Answer) → ((next line s step).boxes b).work ≡ Say t l a
+      → ((next line s step).mail t.0 ≡ Taken l) × (l.to.0 ≡ b)
   says_kept b t l a h = grind (arith, nat_tests, old.serves b t l, old.says b t l a)
 
   waits_kept : (b : ℕ) (p : Path) → ((next line s step).boxes b).waiting ≡ Some p → (next line s step).mail p.train.0 ≡ Taken (letter_of_path b p)
   waits_kept b p h = grind (arith, nat_tests, old.waits b p, old.serves b p.train, old.says_one b p.train)
 
-  serves_one_kept : (b : ℕ) (t : TrainId) (l : Letter) (p : Path) → ((next line s step).boxes b).work ≡ Serve t l → ((next line s step).boxes b).waiting ≡ Some p → p.train.0 ≢ t.0
+  serves_one_kept : (b : ℕ) (t : TrainId) (l : Letter) (p : Path) → ((next line s step).boxes b).work ≡ Serve t l
+      → ((next line s step).boxes b).waiting ≡ Some p → p.train.0 ≢ t.0
   serves_one_kept b t l p h k = λ e. grind (arith, nat_tests, old.waits b p, old.serves b t l, old.serves_one b t l p)
 
-  says_one_kept : (b : ℕ) (t : TrainId) (l : Letter) (a : Answer) (p : Path) → ((next line s step).boxes b).work ≡ Say t l a → ((next line s step).boxes b).waiting ≡ Some p → p.train.0 ≢ t.0
+  says_one_kept : (b : ℕ) (t : TrainId) (l : Letter) (a : Answer) (p : Path) → ((next line s step).boxes b).work ≡ Say t l a
+      → ((next line s step).boxes b).waiting ≡ Some p → p.train.0 ≢ t.0
   says_one_kept b t l a p h k = λ e. grind (arith, nat_tests, old.waits b p, old.serves b t l, old.serves_one b t l p, old.says_one b t l a p)
 
   pub mailboxes_kept : AgreesOnMailboxes line (next line s step)

@@ -49,7 +49,8 @@ use Rattle.rl_protocol.proofs.Passing.{number_is, go_stays, enter_moves, leave_m
 use Rattle.rl_protocol.proofs.Paths.{IsOwnPath, path_at, waiting_within, lock_path, unlock_path, lock_is_own, lock_held}
 
 -- who is told to go, or is across, is passing at that step
-pub run_passing : (s : State) (t k : ℕ) → AgreesOnPassage s t → (s.run t ≡ Go k) ⊎ (s.run t ≡ Across k) → (is_passing (s.trains t) ≡ true) × ((s.trains t).step ≡ k)
+pub run_passing : (s : State) (t k : ℕ) → AgreesOnPassage s t → (s.run t ≡ Go k) ⊎ (s.run t ≡ Across k)
+    → (is_passing (s.trains t) ≡ true) × ((s.trains t).step ≡ k)
 run_passing s t k passage h = (grind (arith, nat_tests), grind (arith, nat_tests))
 
 -- two numbers that are the same by the test
@@ -66,7 +67,8 @@ item_there (x ∷ xs) zero h = (x, refl)
 item_there (x ∷ xs) (suc k) h = item_there xs k (omega arith)
 
 -- a lock that isn't being set is set
-pub set_lock : (w : LockWord) (t x y : ℕ) → is_locked_by w t x y ≡ true → ((p : Path) → path_in_setting w ≡ Some p → p.train.0 ≢ t) → (p : Path) × (w ≡ Locked p) × (p.x.0 ≡ x) × (p.y.0 ≡ y)
+pub set_lock : (w : LockWord) (t x y : ℕ) → is_locked_by w t x y ≡ true → ((p : Path) → path_in_setting w ≡ Some p → p.train.0 ≢ t)
+    → (p : Path) × (w ≡ Locked p) × (p.x.0 ≡ x) × (p.y.0 ≡ y)
 set_lock (Free side) t x y h other = absurd (false≢true h)
 set_lock (Asked p) t x y h other = absurd (other p refl (eqb-true _ _ (and_parts _ _ (and_parts _ _ h).0).0))
 set_lock (Moving p) t x y h other = absurd (other p refl (eqb-true _ _ (and_parts _ _ (and_parts _ _ h).0).0))
@@ -89,12 +91,14 @@ abbrev pub MovesBy : NetworkPlan → World → World → Option Move → Type 0
 MovesBy net w v None = v ≡ w
 MovesBy net w v (Some m) = IsMove net w v m
 
-module _ (net : NetworkPlan) (line : Line) (tries : ℕ) (s : State) (network : IsNetwork net) (are : ArePlaced net) (of : IsLineOf net line) (laws : IsConsistent line) (agrees : Agrees line tries s) where
+module _ (net : NetworkPlan) (line : Line) (tries : ℕ) (s : State) (network : IsNetwork net) (are : ArePlaced net) (of : IsLineOf net line)
+    (laws : IsConsistent line) (agrees : Agrees line tries s) where
   -- the arm of a letter in hand is there
   pub letter_there : (b t : ℕ) (l : Letter) → HasTaken line s b t l → line.has_arm b l.x.0 ≡ true
   letter_there b t l has =
       subst (λ z. line.has_arm z l.x.0 ≡ true) has.to
-      (letter_arm line (row_of line t (s.trains t)) (s.trains t).job l (row_arms line t (s.trains t).step laws (waiting_within line tries s t agrees has.waits)) has.letter)
+      (letter_arm line (row_of line t (s.trains t)) (s.trains t).job l
+      (row_arms line t (s.trains t).step laws (waiting_within line tries s t agrees has.waits)) has.letter)
 
   -- a train that asks stands on one segment
   asks_standing : (t : ℕ) → passes (s.trains t).job ≡ false → s.run t ≡ Clear (place_of (s.trains t))
@@ -120,7 +124,8 @@ module _ (net : NetworkPlan) (line : Line) (tries : ℕ) (s : State) (network : 
       agrees.mailboxes.empty t (ap (λ c. (s.trains t).waits && not c) parts.1 ∙ ap (λ c. c && false) parts.0)
 
   -- so it holds and has locked what is of its job
-  passing_holding : (t b x : ℕ) → is_passing (s.trains t) ≡ true → is_held_by t (s.resv b x) ≡ (line.ends t (s.trains t).step b x || line.ends t ((s.trains t).step + 1) b x)
+  passing_holding : (t b x : ℕ) → is_passing (s.trains t) ≡ true
+      → is_held_by t (s.resv b x) ≡ (line.ends t (s.trains t).step b x || line.ends t ((s.trains t).step + 1) b x)
   passing_holding t b x h =
       agrees.reservations.exact t b x ∙ by_job (passing_mail t h)
       ∙ passing_holds (row_of line t (s.trains t)) (s.trains t).job _ _ b x (and_parts (s.trains t).waits (passes (s.trains t).job) h).1
@@ -128,7 +133,8 @@ module _ (net : NetworkPlan) (line : Line) (tries : ℕ) (s : State) (network : 
       by_job : s.mail t ≡ Empty → holds line s t b x ≡ job_holds line t (s.trains t) b x
       by_job mail = ap (λ m. held_with (done_in (λ c. has_done_for t (s.boxes c)) m) b x (job_holds line t (s.trains t) b x)) mail
 
-  passing_locking : (t b x y : ℕ) → is_passing (s.trains t) ≡ true → is_locked_by (s.lock b) t x y ≡ (at (row_of line t (s.trains t)).b (row_of line t (s.trains t)).x b x && (row_of line t (s.trains t)).y.0 == y)
+  passing_locking : (t b x y : ℕ) → is_passing (s.trains t) ≡ true
+      → is_locked_by (s.lock b) t x y ≡ (at (row_of line t (s.trains t)).b (row_of line t (s.trains t)).x b x && (row_of line t (s.trains t)).y.0 == y)
   passing_locking t b x y h =
       agrees.locks.exact t b x y ∙ by_job (passing_mail t h)
       ∙ passing_locks (row_of line t (s.trains t)) (s.trains t).job b x y (and_parts (s.trains t).waits (passes (s.trains t).job) h).1
@@ -170,9 +176,11 @@ module _ (net : NetworkPlan) (line : Line) (tries : ℕ) (s : State) (network : 
       holds_both net (world_at net s) t (line.row t k).s2.0 there.0 there.1
       (λ c i h.
       held_at net s t (line.row t k).s2.0 c i h ∙ passing_holding t c i passing
-      ∙ or_right _ _ (ap (λ z. line.ends t (z + 1) c i) at_k ∙ of.ends t (k + 1) c i ∙ ap (λ o. same_number o (route_segment net t (k + 1))) (are.to_segment _ c i h) ∙ number_is _ _ to))
+      ∙ or_right _ _ (ap (λ z. line.ends t (z + 1) c i) at_k ∙ of.ends t (k + 1) c i
+      ∙ ap (λ o. same_number o (route_segment net t (k + 1))) (are.to_segment _ c i h) ∙ number_is _ _ to))
 
-  enter_locks : (t k : ℕ) → is_passing (s.trains t) ≡ true → (s.trains t).step ≡ k → let row = line.row t k in is_locked_by (s.lock row.b.0) t row.x.0 row.y.0 ≡ true
+  enter_locks : (t k : ℕ) → is_passing (s.trains t) ≡ true → (s.trains t).step ≡ k → let row = line.row t k in
+      is_locked_by (s.lock row.b.0) t row.x.0 row.y.0 ≡ true
   enter_locks t k passing at_k =
       let row = line.row t k in
       passing_locking t row.b.0 row.x.0 row.y.0 passing
@@ -180,14 +188,18 @@ module _ (net : NetworkPlan) (line : Line) (tries : ℕ) (s : State) (network : 
       ∙ and_from _ _ (and_from _ _ (eq-eqb row.b.0 row.b.0 refl) (eq-eqb row.x.0 row.x.0 refl)) (eq-eqb row.y.0 row.y.0 refl)
 
   -- its box is set for it
-  enter_points : (t k : ℕ) → is_passing (s.trains t) ≡ true → (s.trains t).step ≡ k → let row = line.row t k in points_connect net row.b.0 row.s.0 row.s2.0 ((world_at net s).points row.b.0) ≡ true
+  enter_points : (t k : ℕ) → is_passing (s.trains t) ≡ true → (s.trains t).step ≡ k → let row = line.row t k in
+      points_connect net row.b.0 row.s.0 row.s2.0 ((world_at net s).points row.b.0) ≡ true
   enter_points t k passing at_k =
       let row = line.row t k in
       let within : k < line.steps t = subst (λ z. z < line.steps t) at_k (passing_within t passing) in
       let set = set_lock (s.lock row.b.0) t row.x.0 row.y.0 (enter_locks t k passing at_k)
       (λ p e same. cc (agrees.mailboxes.waits row.b.0 p (agrees.locks.waiting row.b.0 ∙ e), ap s.mail same, passing_mail t passing)) in
-      let side = has_side (kind_of net row.b.0) row.x.0 row.y.0 (subst (λ z. can_join z row.x.0 row.y.0 ≡ true) (of.kind row.b.0) (laws.rows t k within).joined) in
-      ap (points_connect net row.b.0 row.s.0 row.s2.0) (ap (points_in (kind_of net row.b.0)) set.1 ∙ ap (λ o. standing (kind_of net row.b.0) (unwrap_or o Left)) (arms_are (kind_of net row.b.0) set.0 row.x.0 row.y.0 set.2 set.3 ∙ side.1))
+      let side = has_side (kind_of net row.b.0) row.x.0 row.y.0
+      (subst (λ z. can_join z row.x.0 row.y.0 ≡ true) (of.kind row.b.0) (laws.rows t k within).joined) in
+      ap (points_connect net row.b.0 row.s.0 row.s2.0)
+      (ap (points_in (kind_of net row.b.0)) set.1
+      ∙ ap (λ o. standing (kind_of net row.b.0) (unwrap_or o Left)) (arms_are (kind_of net row.b.0) set.0 row.x.0 row.y.0 set.2 set.3 ∙ side.1))
       ∙ set_connects net row.b.0 row.s.0 row.s2.0 row.x.0 row.y.0 side.0 (are.to_arm _ _ _ (row_from t k within)) (are.to_arm _ _ _ (row_to t k within)) side.2
 
   -- the path of a letter in hand
@@ -211,26 +223,30 @@ module _ (net : NetworkPlan) (line : Line) (tries : ℕ) (s : State) (network : 
   joins_net : (b x y : ℕ) (side : Side) (answer : Bool) → arms_join (line.kind b) x y side ≡ answer → arms_join (kind_of net b) x y side ≡ answer
   joins_net b x y side answer h = ap (λ k. arms_join k x y side) (sym (of.kind b)) ∙ h
 
-  lock_now_moves : (b t : ℕ) (l : Letter) (side : Side) → Fits line s (lock_now b t l side) → HasTaken line s b t l → IsMove net (world_at net s) (world_at net (next line s (lock_now b t l side))) (moves.Lock (train t) (box b) (seg_at line b l.x) (seg_at line b l.y))
+  lock_now_moves : (b t : ℕ) (l : Letter) (side : Side) → Fits line s (lock_now b t l side) → HasTaken line s b t l
+      → IsMove net (world_at net s) (world_at net (next line s (lock_now b t l side))) (moves.Lock (train t) (box b) (seg_at line b l.x) (seg_at line b l.y))
   lock_now_moves b t l side fits has =
       let held = lock_held line tries s b t l laws agrees has fits.1 in
       lock_moves net line s b (path_of (train t) l) are (asked_at b t l has fits.1) side (Locked (path_of (train t) l)) fits.2 held.0 held.1 (λ u f g. refl)
       (stands_now (kind_of net b) l.x.0 l.y.0 side (joins_net b l.x.0 l.y.0 side true fits.3))
 
-  lock_ask_moves : (b t : ℕ) (l : Letter) (side : Side) → Fits line s (lock_ask b t l side) → HasTaken line s b t l → IsMove net (world_at net s) (world_at net (next line s (lock_ask b t l side))) (moves.Lock (train t) (box b) (seg_at line b l.x) (seg_at line b l.y))
+  lock_ask_moves : (b t : ℕ) (l : Letter) (side : Side) → Fits line s (lock_ask b t l side) → HasTaken line s b t l
+      → IsMove net (world_at net s) (world_at net (next line s (lock_ask b t l side))) (moves.Lock (train t) (box b) (seg_at line b l.x) (seg_at line b l.y))
   lock_ask_moves b t l side fits has =
       let held = lock_held line tries s b t l laws agrees has fits.1 in
       lock_moves net line s b (path_of (train t) l) are (asked_at b t l has fits.1) side (Asked (path_of (train t) l)) fits.2 held.0 held.1 (λ u f g. refl)
       (stands_asked (kind_of net b) l.x.0 l.y.0 side (joins_net b l.x.0 l.y.0 side false fits.3) (joins_net b l.x.0 l.y.0 (other_side side) true fits.4))
 
-  unlock_step_moves : (b t : ℕ) (l : Letter) (side : Side) → Fits line s (unlock b t l side) → HasTaken line s b t l → IsMove net (world_at net s) (world_at net (next line s (unlock b t l side))) (moves.Unlock (train t) (box b))
+  unlock_step_moves : (b t : ℕ) (l : Letter) (side : Side) → Fits line s (unlock b t l side) → HasTaken line s b t l
+      → IsMove net (world_at net s) (world_at net (next line s (unlock b t l side))) (moves.Unlock (train t) (box b))
   unlock_step_moves b t l side fits has =
       unlock_moves net line s b (path_of (train t) l) are (unlocked_at b t l has fits.1) side fits.2
       (ap (λ k. joining_side k l.x.0 l.y.0) (sym (of.kind b)) ∙ fits.3)
       (λ c f g. ap (λ v. is_across (route_segment net t) (route_box net t) v c f g) (asks_standing t has.active))
 
   -- a No to a reservation names who holds the segment, and one to a lock who has the lock
-  refuse_moves : (b t : ℕ) (l : Letter) (u : TrainId) → HasTaken line s b t l → u.0 ≢ t → s.resv b l.x.0 ≡ Some u → IsMove net (world_at net s) (world_at net s) (moves.Refuse (train t) (seg_at line b l.x) (box b) u)
+  refuse_moves : (b t : ℕ) (l : Letter) (u : TrainId) → HasTaken line s b t l → u.0 ≢ t → s.resv b l.x.0 ≡ Some u
+      → IsMove net (world_at net s) (world_at net s) (moves.Refuse (train t) (seg_at line b l.x) (box b) u)
   refuse_moves b t l u has other held =
       let here = are.to_arm _ _ _ (there_at net line b l.x.0 of (letter_there b t l has)) in
       record {
@@ -242,7 +258,8 @@ module _ (net : NetworkPlan) (line : Line) (tries : ℕ) (s : State) (network : 
   bar_moves b t u other held =
       let set = held_lock (s.lock b) u held in
       let p = set.0 in
-      let path = set_at b p (ap (λ w. is_locked_by w p.train.0 p.x.0 p.y.0) set.1 ∙ and_from _ _ (and_from _ _ (eq-eqb p.train.0 p.train.0 refl) (eq-eqb p.x.0 p.x.0 refl)) (eq-eqb p.y.0 p.y.0 refl)) in
+      let path = set_at b p (ap (λ w. is_locked_by w p.train.0 p.x.0 p.y.0) set.1
+      ∙ and_from _ _ (and_from _ _ (eq-eqb p.train.0 p.train.0 refl) (eq-eqb p.x.0 p.x.0 refl)) (eq-eqb p.y.0 p.y.0 refl)) in
       record {
         guarded = (
           (
@@ -259,7 +276,8 @@ module _ (net : NetworkPlan) (line : Line) (tries : ℕ) (s : State) (network : 
         world = refl;
       }
 
-  refusal_moves : (b t : ℕ) (l : Letter) (u : TrainId) → HasTaken line s b t l → u.0 ≢ t → (v : Verb) → IsRefusable v → HasWhatIsAsked s b l u v → MovesBy net (world_at net s) (world_at net s) (refusal_of line b t l u v)
+  refusal_moves : (b t : ℕ) (l : Letter) (u : TrainId) → HasTaken line s b t l → u.0 ≢ t → (v : Verb) → IsRefusable v → HasWhatIsAsked s b l u v
+      → MovesBy net (world_at net s) (world_at net s) (refusal_of line b t l u v)
   refusal_moves b t l u has other verbs.Reserve may held = refuse_moves b t l u has other held
   refusal_moves b t l u has other verbs.Lock may held = bar_moves b t u other held
   refusal_moves b t l u has other verbs.Release may held = absurd may
@@ -272,9 +290,11 @@ module _ (net : NetworkPlan) (line : Line) (tries : ℕ) (s : State) (network : 
   pub waited_at : (b : ℕ) (p : Path) → HasTaken line s b p.train.0 (letter_of_path b p) → IsPathAt net line b p
   waited_at b p has =
       path_at net line p.train.0 (s.trains p.train.0) b p laws of
-      (subst (λ z. IsOwnPath line p.train.0 (s.trains p.train.0) z p.x.0 p.y.0) has.to (lock_path line tries s p.train.0 (letter_of_path b p) agrees has.waits has.letter refl))
+      (subst (λ z. IsOwnPath line p.train.0 (s.trains p.train.0) z p.x.0 p.y.0) has.to
+      (lock_path line tries s p.train.0 (letter_of_path b p) agrees has.waits has.letter refl))
 
-  settle_step_moves : (b : ℕ) (p : Path) → Fits line s (settle b p) → Known line s (settle b p) → MovesBy net (world_at net s) (world_at net (next line s (settle b p))) (move_of line (settle b p))
+  settle_step_moves : (b : ℕ) (p : Path) → Fits line s (settle b p) → Known line s (settle b p)
+      → MovesBy net (world_at net s) (world_at net (next line s (settle b p))) (move_of line (settle b p))
   settle_step_moves b p fits known =
       let path = waited_at b p known.1 in
       let side = has_side (kind_of net b) p.x.0 p.y.0 path.joined in
@@ -282,15 +302,21 @@ module _ (net : NetworkPlan) (line : Line) (tries : ℕ) (s : State) (network : 
       (sym (ap (λ k. joining_side k p.x.0 p.y.0) (of.kind b) ∙ side.1))
       (settle_moves net line s b p are path side.0 fits (point_at b p known.0) side.1)
 
-  enter_step_moves : (t k : ℕ) → Fits line s (enter t k) → IsMove net (world_at net s) (world_at net (next line s (enter t k))) (let row = line.row t k in moves.Enter (train t) row.b row.s row.s2)
+  enter_step_moves : (t k : ℕ) → Fits line s (enter t k)
+      → IsMove net (world_at net s) (world_at net (next line s (enter t k))) (let row = line.row t k in moves.Enter (train t) row.b row.s row.s2)
   enter_step_moves t k fits =
       let passing = run_passing s t k (agrees.passage t) (inl fits.1) in
       let within : k < line.steps t = subst (λ z. z < line.steps t) passing.1 (passing_within t passing.0) in
       let row = line.row t k in
-      enter_moves net line s t k (row_step t k within) (subst (λ n. k < n) (of.steps t) within) fits.1
-      (enter_holds t k passing.0 passing.1, locked_segments (segment_at net row.b.0) (s.lock row.b.0) t row.x.0 row.y.0 row.s.0 row.s2.0 (row_from t k within) (row_to t k within) (enter_locks t k passing.0 passing.1), enter_points t k passing.0 passing.1)
+      enter_moves net line s t k (row_step t k within) (subst (λ n. k < n) (of.steps t) within) fits.1 (
+        enter_holds t k passing.0 passing.1,
+        locked_segments (segment_at net row.b.0) (s.lock row.b.0) t row.x.0 row.y.0 row.s.0 row.s2.0 (row_from t k within)
+            (row_to t k within) (enter_locks t k passing.0 passing.1),
+        enter_points t k passing.0 passing.1,
+      )
 
-  leave_step_moves : (t k : ℕ) → Fits line s (leave t k) → IsMove net (world_at net s) (world_at net (next line s (leave t k))) (moves.Leave (train t) (line.row t k).s)
+  leave_step_moves : (t k : ℕ) → Fits line s (leave t k)
+      → IsMove net (world_at net s) (world_at net (next line s (leave t k))) (moves.Leave (train t) (line.row t k).s)
   leave_step_moves t k fits =
       let passing = run_passing s t k (agrees.passage t) (inr fits.1) in
       let within : k < line.steps t = subst (λ z. z < line.steps t) passing.1 (passing_within t passing.0) in
@@ -311,7 +337,8 @@ module _ (net : NetworkPlan) (line : Line) (tries : ℕ) (s : State) (network : 
   moved_by (lock_moved b p) fits known = moved_stays net s b p fits.1
   moved_by (unlock b t l side) fits known = unlock_step_moves b t l side fits known
   moved_by (say_yes b t l) fits known = refl
-  moved_by (say_no b t l u) fits known = refusal_moves b t l u known.0 (agrees.answers.other b (train t) u l fits.0) l.verb fits.1 (agrees.answers.has b (train t) u l fits.0)
+  moved_by (say_no b t l u) fits known =
+      refusal_moves b t l u known.0 (agrees.answers.other b (train t) u l fits.0) l.verb fits.1 (agrees.answers.has b (train t) u l fits.0)
   moved_by (busy b t l p) fits known = refl
   moved_by (throw b p) fits known = throw_moves net line s b p are (waited_at b p known.1) fits (point_at b p known.0)
   moved_by (settle b p) fits known = settle_step_moves b p fits known

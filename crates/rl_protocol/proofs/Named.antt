@@ -84,12 +84,14 @@ second_there None p h = absurd (false≢true h)
 second_there (Some n) None h = absurd (false≢true h)
 second_there (Some n) (Some m) h = (m, refl)
 
-module _ (net : NetworkPlan) (line : Line) (tries : ℕ) (s : State) (network : IsNetwork net) (are : ArePlaced net) (of : IsLineOf net line) (laws : IsConsistent line) (agrees : Agrees line tries s) where
+module _ (net : NetworkPlan) (line : Line) (tries : ℕ) (s : State) (network : IsNetwork net) (are : ArePlaced net) (of : IsLineOf net line)
+    (laws : IsConsistent line) (agrees : Agrees line tries s) where
   place_in : (b : ℕ) (x r : ℕ) → segment_at net b x ≡ Some r → (r < length net.segments) × (b < length net.boxes)
   place_in b x r h = (segment_in net r b x (are.to_arm r b x h), box_in net b x r h)
 
   letter_in : (b t : ℕ) (l : Letter) → HasTaken line s b t l → ((seg_at line b l.x).0 < length net.segments) × (b < length net.boxes)
-  letter_in b t l has = place_in b l.x.0 (seg_at line b l.x).0 (there_at net line b l.x.0 of (letter_there net line tries s network are of laws agrees b t l has))
+  letter_in b t l has = place_in b l.x.0 (seg_at line b l.x).0
+      (there_at net line b l.x.0 of (letter_there net line tries s network are of laws agrees b t l has))
 
   with_steps : (t : ℕ) → (line.steps t ≡ 0 → ⊥) → t < length net.trains
   with_steps t some = train_in net t (λ e. some (of.steps t ∙ e))
@@ -111,7 +113,8 @@ module _ (net : NetworkPlan) (line : Line) (tries : ℕ) (s : State) (network : 
       let set = held_lock (s.lock b) u h in
       let p = set.0 in
       let mine : is_locked_by (s.lock b) p.train.0 p.x.0 p.y.0 ≡ true =
-      ap (λ w. is_locked_by w p.train.0 p.x.0 p.y.0) set.1 ∙ and_from _ _ (and_from _ _ (eq-eqb p.train.0 p.train.0 refl) (eq-eqb p.x.0 p.x.0 refl)) (eq-eqb p.y.0 p.y.0 refl) in
+      ap (λ w. is_locked_by w p.train.0 p.x.0 p.y.0) set.1
+      ∙ and_from _ _ (and_from _ _ (eq-eqb p.train.0 p.train.0 refl) (eq-eqb p.x.0 p.x.0 refl)) (eq-eqb p.y.0 p.y.0 refl) in
       let own = lock_is_own line tries s p.train.0 b p.x.0 p.y.0 agrees (sym (agrees.locks.exact p.train.0 b p.x.0 p.y.0) ∙ mine) in
       let within = own.within in
       subst (λ (z : TrainId). z.0 < length net.trains) set.2 (with_steps p.train.0 (λ e. none_below (s.trains p.train.0).step (line.steps p.train.0) within e))
@@ -119,7 +122,8 @@ module _ (net : NetworkPlan) (line : Line) (tries : ℕ) (s : State) (network : 
       none_below : (m n : ℕ) → m < n → n ≡ 0 → ⊥
       none_below m n h e = omega arith
 
-  refusal_named : (b t : ℕ) (l : Letter) (u : TrainId) → t < length net.trains → HasTaken line s b t l → (v : Verb) → HasWhatIsAsked s b l u v → NamedBy net (refusal_of line b t l u v)
+  refusal_named : (b t : ℕ) (l : Letter) (u : TrainId) → t < length net.trains → HasTaken line s b t l → (v : Verb) → HasWhatIsAsked s b l u v
+      → NamedBy net (refusal_of line b t l u v)
   refusal_named b t l u there has verbs.Reserve held =
       let place = letter_in b t l has in
       (there, place.0, place.1, holder_in u.0 b l.x.0 (ap (is_held_by u.0) held ∙ eq-eqb u.0 u.0 refl))
@@ -127,7 +131,8 @@ module _ (net : NetworkPlan) (line : Line) (tries : ℕ) (s : State) (network : 
   refusal_named b t l u there has verbs.Release held = absurd held
   refusal_named b t l u there has verbs.Unlock held = absurd held
 
-  lock_named : (b t : ℕ) (p : Path) → t < length net.trains → IsPathAt net line b p → IsMoveOf net (moves.Lock (train t) (box b) (seg_at line b p.x) (seg_at line b p.y))
+  lock_named : (b t : ℕ) (p : Path) → t < length net.trains → IsPathAt net line b p
+      → IsMoveOf net (moves.Lock (train t) (box b) (seg_at line b p.x) (seg_at line b p.y))
   lock_named b t p there path = let from = place_in b p.x.0 _ path.x in let to = place_in b p.y.0 _ path.y in (there, from.1, from.0, to.0)
 
   settle_named : (b : ℕ) (o : Option Side) → b < length net.boxes → NamedBy net (option_map (moves.Settle (box b)) o)
@@ -150,38 +155,51 @@ module _ (net : NetworkPlan) (line : Line) (tries : ℕ) (s : State) (network : 
       for (grant b t l) fits known there = let place = letter_in b t l known.0 in (there, place.0, place.1)
       for (refuse b t l u) fits known there = tt
       for (release b t l) fits known there = let place = letter_in b t l known.0 in (there, place.0, place.1)
-      for (lock_now b t l side) fits known there = lock_named b t (path_of (train t) l) there (asked_at net line tries s network are of laws agrees b t l known fits.1)
-      for (lock_ask b t l side) fits known there = lock_named b t (path_of (train t) l) there (asked_at net line tries s network are of laws agrees b t l known fits.1)
+      for (lock_now b t l side) fits known there =
+          lock_named b t (path_of (train t) l) there (asked_at net line tries s network are of laws agrees b t l known fits.1)
+      for (lock_ask b t l side) fits known there =
+          lock_named b t (path_of (train t) l) there (asked_at net line tries s network are of laws agrees b t l known fits.1)
       for (lock_moved b p) fits known there = tt
       for (unlock b t l side) fits known there = (there, (letter_in b t l known).1)
       for (say_yes b t l) fits known there = tt
       for (say_no b t l u) fits known there = refusal_named b t l u there known.0 l.verb (agrees.answers.has b (train t) u l fits.0)
       for (busy b t l p) fits known there = tt
       for (throw b p) fits known there = (place_in b p.x.0 _ (waited_at net line tries s network are of laws agrees b p known.1).x).1
-      for (settle b p) fits known there = settle_named b (joining_side (line.kind b) p.x.0 p.y.0) (place_in b p.x.0 _ (waited_at net line tries s network are of laws agrees b p known.1).x).1
+      for (settle b p) fits known there =
+          settle_named b (joining_side (line.kind b) p.x.0 p.y.0) (place_in b p.x.0 _ (waited_at net line tries s network are of laws agrees b p known.1).x).1
       for (enter t k) fits known there =
-          let step = of.rows t k (passing_at t k (run_passing s t k (agrees.passage t) (inl fits.1))) in
-          (there, box_of_route_in net t k _ network step.through, segment_of_route_in net t k _ network step.from, segment_of_route_in net t (k + 1) _ network step.to)
+          let step = of.rows t k (passing_at t k (run_passing s t k (agrees.passage t) (inl fits.1))) in (
+            there,
+            box_of_route_in net t k _ network step.through,
+            segment_of_route_in net t k _ network step.from,
+            segment_of_route_in net t
+                (k + 1) _ network step.to,
+          )
       for (head t k) fits known there = tt
       for (leave t k) fits known there =
           let step = of.rows t k (passing_at t k (run_passing s t k (agrees.passage t) (inr fits.1))) in
           (there, segment_of_route_in net t k _ network step.from)
       for (tail t k) fits known there = tt
 
-pub step_named : (net : NetworkPlan) (line : Line) (tries : ℕ) (s : State) (step : Step) (m : Move) → IsRailway net line → Agrees line tries s → Fits line s step → move_of line step ≡ Some m → IsMoveOf net m
+pub step_named : (net : NetworkPlan) (line : Line) (tries : ℕ) (s : State) (step : Step) (m : Move) → IsRailway net line → Agrees line tries s
+    → Fits line s step → move_of line step ≡ Some m → IsMoveOf net m
 step_named net line tries s step m is old fits h =
-    subst (NamedBy net) h (named_by net line tries s is.network (placed net is.network) is.line_of is.consistent old step fits (known_of line tries s step old fits))
+    subst (NamedBy net) h (named_by net line tries s is.network (placed net is.network) is.line_of is.consistent old step fits
+    (known_of line tries s step old fits))
 
 -- what holds of the items of two lists holds of those of both together
-both_lists : (P : Move → Type 0) (xs ys : List Move) → ((k : ℕ) (m : Move) → slice_get xs k ≡ Some m → P m) → ((k : ℕ) (m : Move) → slice_get ys k ≡ Some m → P m) → (k : ℕ) (m : Move) → slice_get (xs ++ ys) k ≡ Some m → P m
+both_lists : (P : Move → Type 0) (xs ys : List Move) → ((k : ℕ) (m : Move) → slice_get xs k ≡ Some m → P m)
+    → ((k : ℕ) (m : Move) → slice_get ys k ≡ Some m → P m) → (k : ℕ) (m : Move) → slice_get (xs ++ ys) k ≡ Some m → P m
 both_lists P [] ys f g k m h = g k m h
 both_lists P (x ∷ xs) ys f g zero m h = f zero m h
 both_lists P (x ∷ xs) ys f g (suc k) m h = both_lists P xs ys (λ j. f (suc j)) g k m h
 
-pub run_named : (net : NetworkPlan) (line : Line) (tries : ℕ) (steps : List Step) → IsRailway net line → IsRun line tries steps → (k : ℕ) (m : Move) → slice_get (moves_of line steps) k ≡ Some m → IsMoveOf net m
+pub run_named : (net : NetworkPlan) (line : Line) (tries : ℕ) (steps : List Step) → IsRailway net line → IsRun line tries steps → (k : ℕ) (m : Move)
+    → slice_get (moves_of line steps) k ≡ Some m → IsMoveOf net m
 run_named net line tries [] is run k m h = absurd (cc)
 run_named net line tries (step ∷ steps) is run k m h =
-    both_lists (IsMoveOf net) (moves_of line steps) (option_to_list (move_of line step)) (run_named net line tries steps is run.0) (one (move_of line step) refl) k m h
+    both_lists (IsMoveOf net) (moves_of line steps) (option_to_list (move_of line step)) (run_named net line tries steps is run.0)
+    (one (move_of line step) refl) k m h
   where
     one : (o : Option Move) → move_of line step ≡ o → (k : ℕ) (m : Move) → slice_get (option_to_list o) k ≡ Some m → IsMoveOf net m
     one None e k m h = absurd (cc)

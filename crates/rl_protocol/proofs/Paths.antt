@@ -29,19 +29,25 @@ pub record IsOwnPath (line : Line) (t : ℕ) (m : TrainMind) (b x y : ℕ) : Typ
   pub at_y : (row_of line t m).y.0 ≡ y
 
 -- such a path has its segments, and its box can connect it
-pub path_at : (net : NetworkPlan) (line : Line) (t : ℕ) (m : TrainMind) (b : ℕ) (p : Path) → IsConsistent line → IsLineOf net line → IsOwnPath line t m b p.x.0 p.y.0 → IsPathAt net line b p
+pub path_at : (net : NetworkPlan) (line : Line) (t : ℕ) (m : TrainMind) (b : ℕ) (p : Path) → IsConsistent line → IsLineOf net line
+    → IsOwnPath line t m b p.x.0 p.y.0 → IsPathAt net line b p
 path_at net line t m b p laws of own =
     let arms = row_arms line t m.step laws own.within in
     let at_b = own.at_box in
     let at_x = own.at_x in
     let at_y = own.at_y in
-    let arm_x : line.has_arm b p.x.0 ≡ true = subst (λ z. line.has_arm z p.x.0 ≡ true) at_b (subst (λ z. line.has_arm (row_of line t m).b.0 z ≡ true) at_x arms.x) in
-    let arm_y : line.has_arm b p.y.0 ≡ true = subst (λ z. line.has_arm z p.y.0 ≡ true) at_b (subst (λ z. line.has_arm (row_of line t m).b.0 z ≡ true) at_y arms.y) in
+    let arm_x : line.has_arm b p.x.0 ≡ true =
+    subst (λ z. line.has_arm z p.x.0 ≡ true) at_b (subst (λ z. line.has_arm (row_of line t m).b.0 z ≡ true) at_x arms.x) in
+    let arm_y : line.has_arm b p.y.0 ≡ true =
+    subst (λ z. line.has_arm z p.y.0 ≡ true) at_b (subst (λ z. line.has_arm (row_of line t m).b.0 z ≡ true) at_y arms.y) in
     let joined = (laws.rows t m.step own.within).joined in
     record {
       x = there_at net line b p.x.0 of arm_x;
       y = there_at net line b p.y.0 of arm_y;
-      joined = subst (λ k. can_join k p.x.0 p.y.0 ≡ true) (of.kind b) (subst (λ z. can_join (line.kind z) p.x.0 p.y.0 ≡ true) at_b (subst (λ z. can_join (line.kind (row_of line t m).b.0) z p.y.0 ≡ true) at_x (subst (λ z. can_join (line.kind (row_of line t m).b.0) (row_of line t m).x.0 z ≡ true) at_y joined)));
+      joined = subst (λ k. can_join k p.x.0 p.y.0 ≡ true) (of.kind b)
+          (subst (λ z. can_join (line.kind z) p.x.0 p.y.0 ≡ true) at_b
+          (subst (λ z. can_join (line.kind (row_of line t m).b.0) z p.y.0 ≡ true) at_x
+          (subst (λ z. can_join (line.kind (row_of line t m).b.0) (row_of line t m).x.0 z ≡ true) at_y joined)));
     }
 
 -- a train that waits is under way
@@ -49,15 +55,29 @@ pub waiting_within : (line : Line) (tries : ℕ) (s : State) (t : ℕ) → Agree
 waiting_within line tries s t agrees waits = (agrees.attempts t).under_way (or_left (s.trains t).waits _ waits)
 
 -- the path of a lock that a train asks for, and of an unlock
-pub lock_path : (line : Line) (tries : ℕ) (s : State) (t : ℕ) (l : Letter) → Agrees line tries s → (s.trains t).waits ≡ true → letter_of line t (s.trains t) ≡ Some l → l.verb ≡ verbs.Lock → IsOwnPath line t (s.trains t) l.to.0 l.x.0 l.y.0
+pub lock_path : (line : Line) (tries : ℕ) (s : State) (t : ℕ) (l : Letter) → Agrees line tries s → (s.trains t).waits ≡ true
+    → letter_of line t (s.trains t) ≡ Some l → l.verb ≡ verbs.Lock → IsOwnPath line t (s.trains t) l.to.0 l.x.0 l.y.0
 lock_path line tries s t l agrees waits is verb =
     let asks = asks_lock (row_of line t (s.trains t)) (s.trains t).job l is verb in
-    record { within = waiting_within line tries s t agrees waits; at_box = sym (ap (λ z. z.0) asks.to); at_x = sym (ap (λ z. z.0) asks.x); at_y = sym (ap (λ z. z.0) asks.y) }
+    record {
+      within = waiting_within line tries s t agrees waits;
+      at_box = sym (ap (λ z. z.0) asks.to);
+      at_x = sym (ap (λ z. z.0) asks.x);
+      at_y =
+          sym (ap (λ z. z.0) asks.y);
+    }
 
-pub unlock_path : (line : Line) (tries : ℕ) (s : State) (t : ℕ) (l : Letter) → Agrees line tries s → (s.trains t).waits ≡ true → letter_of line t (s.trains t) ≡ Some l → l.verb ≡ verbs.Unlock → IsOwnPath line t (s.trains t) l.to.0 l.x.0 l.y.0
+pub unlock_path : (line : Line) (tries : ℕ) (s : State) (t : ℕ) (l : Letter) → Agrees line tries s → (s.trains t).waits ≡ true
+    → letter_of line t (s.trains t) ≡ Some l → l.verb ≡ verbs.Unlock → IsOwnPath line t (s.trains t) l.to.0 l.x.0 l.y.0
 unlock_path line tries s t l agrees waits is verb =
     let asks = asks_unlock (row_of line t (s.trains t)) (s.trains t).job l is verb in
-    record { within = waiting_within line tries s t agrees waits; at_box = sym (ap (λ z. z.0) asks.to); at_x = sym (ap (λ z. z.0) asks.x); at_y = sym (ap (λ z. z.0) asks.y) }
+    record {
+      within = waiting_within line tries s t agrees waits;
+      at_box = sym (ap (λ z. z.0) asks.to);
+      at_x = sym (ap (λ z. z.0) asks.x);
+      at_y =
+          sym (ap (λ z. z.0) asks.y);
+    }
 
 -- a letter that is done is that of its train, which waits
 done_is : (line : Line) (tries : ℕ) (s : State) (t : ℕ) (l : Letter) → Agrees line tries s → done_letter s t ≡ Some l → Waits line s t l
@@ -77,7 +97,8 @@ there_is : (l : Letter) (b x y : ℕ) → (at l.to l.x b x && l.y.0 == y) ≡ tr
 there_is l b x y h = (grind (arith, nat_tests), grind (arith, nat_tests), grind (arith, nat_tests))
 
 -- the path of a lock that a train has
-pub lock_is_own : (line : Line) (tries : ℕ) (s : State) (t b x y : ℕ) → Agrees line tries s → has_lock line s t b x y ≡ true → IsOwnPath line t (s.trains t) b x y
+pub lock_is_own : (line : Line) (tries : ℕ) (s : State) (t b x y : ℕ) → Agrees line tries s → has_lock line s t b x y ≡ true
+    → IsOwnPath line t (s.trains t) b x y
 lock_is_own line tries s t b x y agrees h = of (done_letter s t) refl h
   where
     by_job : job_locks line t (s.trains t) b x y ≡ true → IsOwnPath line t (s.trains t) b x y
@@ -102,7 +123,8 @@ lock_is_own line tries s t b x y agrees h = of (done_letter s t) refl h
         (locked_by l.verb _ _ h)
 
 -- a train that asks for a lock holds both segments there, and hasn't the lock
-pub lock_held : (line : Line) (tries : ℕ) (s : State) (b t : ℕ) (l : Letter) → IsConsistent line → Agrees line tries s → HasTaken line s b t l → l.verb ≡ verbs.Lock → (is_held_by t (s.resv b l.x.0) ≡ true) × (is_held_by t (s.resv b l.y.0) ≡ true)
+pub lock_held : (line : Line) (tries : ℕ) (s : State) (b t : ℕ) (l : Letter) → IsConsistent line → Agrees line tries s → HasTaken line s b t l
+    → l.verb ≡ verbs.Lock → (is_held_by t (s.resv b l.x.0) ≡ true) × (is_held_by t (s.resv b l.y.0) ≡ true)
 lock_held line tries s b t l laws agrees has verb =
     let asks = asks_lock (row_of line t (s.trains t)) (s.trains t).job l has.letter verb in
     let is = laws.rows t (s.trains t).step (waiting_within line tries s t agrees has.waits) in
@@ -111,8 +133,12 @@ lock_held line tries s b t l laws agrees has verb =
     let at_box : (row_of line t (s.trains t)).b.0 ≡ b = sym (ap (λ z. z.0) asks.to) ∙ has.to in
     let at_x : (row_of line t (s.trains t)).x.0 ≡ l.x.0 = sym (ap (λ z. z.0) asks.x) in
     let at_y : (row_of line t (s.trains t)).y.0 ≡ l.y.0 = sym (ap (λ z. z.0) asks.y) in
-    let here_b : line.ends t (s.trains t).step b l.x.0 ≡ true = subst (λ z. line.ends t (s.trains t).step z l.x.0 ≡ true) at_box (subst (λ z. line.ends t (s.trains t).step (row_of line t (s.trains t)).b.0 z ≡ true) at_x here) in
-    let ahead_b : line.ends t ((s.trains t).step + 1) b l.y.0 ≡ true = subst (λ z. line.ends t ((s.trains t).step + 1) z l.y.0 ≡ true) at_box (subst (λ z. line.ends t ((s.trains t).step + 1) (row_of line t (s.trains t)).b.0 z ≡ true) at_y ahead) in (
+    let here_b : line.ends t (s.trains t).step b l.x.0 ≡ true =
+    subst (λ z. line.ends t (s.trains t).step z l.x.0 ≡ true) at_box
+    (subst (λ z. line.ends t (s.trains t).step (row_of line t (s.trains t)).b.0 z ≡ true) at_x here) in
+    let ahead_b : line.ends t ((s.trains t).step + 1) b l.y.0 ≡ true =
+    subst (λ z. line.ends t ((s.trains t).step + 1) z l.y.0 ≡ true) at_box
+    (subst (λ z. line.ends t ((s.trains t).step + 1) (row_of line t (s.trains t)).b.0 z ≡ true) at_y ahead) in (
       agrees.reservations.exact t b l.x.0 ∙ by_job has.mail verb l.x.0 ∙ asks.holds _ _ b l.x.0 ∙ or_left _ _ here_b,
       agrees.reservations.exact t b l.y.0 ∙ by_job has.mail verb l.y.0 ∙ asks.holds _ _ b l.y.0 ∙ or_right _ _ ahead_b,
     )

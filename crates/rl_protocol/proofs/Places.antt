@@ -19,7 +19,9 @@ one_end : (net : NetworkPlan) (s b x : ℕ) (g : Segment) → IsSegment net s g 
 one_end net s b x g is h =
     let low = is.low.segment in
     let high = is.high.segment in
-    end_is (g.low.at.0 == b) (g.high.at.0 == b) h (λ e f. subst (λ y. segment_at net y x ≡ Some s) (at_box g.low.at.0 e) (subst (λ y. segment_at net g.low.at.0 y ≡ Some s) (same f) low)) (λ e f. subst (λ y. segment_at net y x ≡ Some s) (at_box g.high.at.0 e) (subst (λ y. segment_at net g.high.at.0 y ≡ Some s) (same f) high))
+    end_is (g.low.at.0 == b) (g.high.at.0 == b) h
+    (λ e f. subst (λ y. segment_at net y x ≡ Some s) (at_box g.low.at.0 e) (subst (λ y. segment_at net g.low.at.0 y ≡ Some s) (same f) low))
+    (λ e f. subst (λ y. segment_at net y x ≡ Some s) (at_box g.high.at.0 e) (subst (λ y. segment_at net g.high.at.0 y ≡ Some s) (same f) high))
   where
     at_box : (y : ℕ) → (y == b) ≡ true → y ≡ b
     at_box y e = grind (arith, nat_tests)
@@ -27,7 +29,8 @@ one_end net s b x g is h =
     same : {y z : ℕ} → Some y ≡ Some z → y ≡ z
     same e = cc
 
-    end_is : (p q : Bool) {P : Type 0} → cond p (Some g.low.arm.0) (cond q (Some g.high.arm.0) None) ≡ Some x → (p ≡ true → Some g.low.arm.0 ≡ Some x → P) → (q ≡ true → Some g.high.arm.0 ≡ Some x → P) → P
+    end_is : (p q : Bool) {P : Type 0} → cond p (Some g.low.arm.0) (cond q (Some g.high.arm.0) None) ≡ Some x → (p ≡ true → Some g.low.arm.0 ≡ Some x → P)
+        → (q ≡ true → Some g.high.arm.0 ≡ Some x → P) → P
     end_is true q h low high = low refl h
     end_is false true h low high = high refl h
     end_is false false h low high = cc
@@ -35,6 +38,8 @@ one_end net s b x g is h =
 pub placed : (net : NetworkPlan) → IsNetwork net → ArePlaced net
 placed net network =
     record {
-      to_segment = λ s b x h. option_and_then_some (arm_at b) (slice_get net.segments s) x h (λ g there is. one_end net s b x g (network.segments s g there) is);
-      to_arm = λ s b x h. option_and_then_some (λ (y : SwitchBox). option_map (λ (s : SegId). s.0) (slice_get y.arms x)) (slice_get net.boxes b) s h (λ y there is. (network.boxes b y there).segments x s h);
+      to_segment = λ s b x h. option_and_then_some (arm_at b) (slice_get net.segments s) x h
+          (λ g there is. one_end net s b x g (network.segments s g there) is);
+      to_arm = λ s b x h. option_and_then_some (λ (y : SwitchBox). option_map (λ (s : SegId). s.0) (slice_get y.arms x)) (slice_get net.boxes b) s h
+          (λ y there is. (network.boxes b y there).segments x s h);
     }

@@ -21,8 +21,10 @@ point_turns Joint x y side h k = absurd (false≢true (sym h ∙ k))
 point_turns Point x y side h k = refl
 point_turns Crossing x y side h k = absurd (false≢true (sym h ∙ k))
 
-pub waiting_kept : (line : Line) (s : State) (step : Step) (b : ℕ) → (s.boxes b).waiting ≡ path_in_setting (s.lock b) → Fits line s step → Known line s step → ((next line s step).boxes b).waiting ≡ path_in_setting ((next line s step).lock b)
+pub waiting_kept : (line : Line) (s : State) (step : Step) (b : ℕ) → (s.boxes b).waiting ≡ path_in_setting (s.lock b) → Fits line s step → Known line s step
+    → ((next line s step).boxes b).waiting ≡ path_in_setting ((next line s step).lock b)
 waiting_kept line s step b old fits known = grind (arith, nat_tests)
 
-pub points_kept : (line : Line) (s : State) (step : Step) (b : ℕ) (p : Path) → ((s.boxes b).waiting ≡ Some p → line.kind b ≡ Point) → Fits line s step → ((next line s step).boxes b).waiting ≡ Some p → line.kind b ≡ Point
+pub points_kept : (line : Line) (s : State) (step : Step) (b : ℕ) (p : Path) → ((s.boxes b).waiting ≡ Some p → line.kind b ≡ Point) → Fits line s step
+    → ((next line s step).boxes b).waiting ≡ Some p → line.kind b ≡ Point
 points_kept line s step b p old fits h = grind (arith, nat_tests, point_turns)

@@ -181,7 +181,8 @@ rank w s t =
     else ready_rank w m.job
 
 -- with the answer heard a letter has weighed what it can
-pub rank_heard : (w : Weights) (row : StepRow) (job : Job) (l : Letter) → letter_at job row ≡ Some l → job_rank w job + letter_weight w + verb_weight w l.verb ≤ ready_rank w (job_after_yes row job)
+pub rank_heard : (w : Weights) (row : StepRow) (job : Job) (l : Letter) → letter_at job row ≡ Some l
+    → job_rank w job + letter_weight w + verb_weight w l.verb ≤ ready_rank w (job_after_yes row job)
 unfolding letter_at job_after_yes job_rank begins
 rank_heard w row jobs.Near l h = grind arith
 rank_heard w row jobs.Far l h = grind arith
@@ -242,7 +243,8 @@ rank_ready w jobs.FreeFar = omega arith
 rank_ready w jobs.DropFar = omega arith
 rank_ready w jobs.DropNear = omega arith
 
-pub rank_asking : (w : Weights) (row : StepRow) (job : Job) (l : Letter) → letter_at job row ≡ Some l → job_rank w job + letter_weight w + verb_weight w l.verb ≤ attempt_weight w
+pub rank_asking : (w : Weights) (row : StepRow) (job : Job) (l : Letter) → letter_at job row ≡ Some l
+    → job_rank w job + letter_weight w + verb_weight w l.verb ≤ attempt_weight w
 unfolding letter_at job_rank
 rank_asking w row jobs.Near l h = grind arith
 rank_asking w row jobs.Far l h = grind arith
@@ -277,7 +279,8 @@ pub box_bounded : (w : Weights) (t : ℕ) (m : BoxMind) (v : LockWord) (verb : V
     → box_rank w t m v ≤ w.grant + w.tell + verb_weight w verb
 box_bounded w t m v verb says waits one = of m.work m.waiting refl refl
   where
-    of : (work : Work) (o : Option Path) → m.work ≡ work → m.waiting ≡ o → work_rank w t work + cond (is_path_of t o) (lock_rank w v) 0 ≤ w.grant + w.tell + verb_weight w verb
+    of : (work : Work) (o : Option Path) → m.work ≡ work → m.waiting ≡ o
+        → work_rank w t work + cond (is_path_of t o) (lock_rank w v) 0 ≤ w.grant + w.tell + verb_weight w verb
     of Ready None e f = omega arith
     of Ready (Some p) e f = by_path p (waits p f)
       where
@@ -290,7 +293,8 @@ box_bounded w t m v verb says waits one = of m.work m.waiting refl refl
         by_path p is = grind (arith, nat_tests)
     of (Say u l answers.Yes) None e f = let is = says u l answers.Yes e in let fair = w.fair in grind (arith, nat_tests)
     of (Say u l (answers.No x)) None e f = let fair = w.fair in grind (arith, nat_tests)
-    of (Say u l answers.Yes) (Some p) e f = let is = says u l answers.Yes e in let lock = waits p f in let other = one u l answers.Yes p e f in grind (arith, nat_tests)
+    of (Say u l answers.Yes) (Some p) e f = let is = says u l answers.Yes e in let lock = waits p f in let other = one u l answers.Yes p e f in
+        grind (arith, nat_tests)
     of (Say u l (answers.No x)) (Some p) e f = let lock = waits p f in let other = one u l (answers.No x) p e f in let fair = w.fair in grind (arith, nat_tests)
 
 -- at the start no attempt is open

@@ -15,7 +15,8 @@ use Rattle.rl_protocol.proofs.Known.{Known}
 use Rattle.rl_protocol.proofs.Agreed.{agrees, known_of}
 
 -- each step says as many refusals as its move counts
-step_refuses : (line : Line) (s : State) (step : Step) (t : ℕ) → Fits line s step → Known line s step → refusals_said (next line s step) t ≡ count_by (is_refusal t) (option_to_list (move_of line step)) + refusals_said s t
+step_refuses : (line : Line) (s : State) (step : Step) (t : ℕ) → Fits line s step → Known line s step
+    → refusals_said (next line s step) t ≡ count_by (is_refusal t) (option_to_list (move_of line step)) + refusals_said s t
 step_refuses line s step t fits known = grind (arith, nat_tests)
 
 -- a count over a list with more at its end
@@ -25,7 +26,8 @@ count_more p xs ys = sum_by-append (λ x. cond (p x) 1 0) xs ys ∙ add_comm (co
     add_comm : (a b : ℕ) → a + b ≡ b + a
     add_comm a b = omega arith
 
-pub refused_is : (line : Line) (tries : ℕ) (steps : List Step) (t : ℕ) → IsConsistent line → IsRun line tries steps → refused_in (moves_of line steps) t ≡ refusals_said (state_after line tries steps) t
+pub refused_is : (line : Line) (tries : ℕ) (steps : List Step) (t : ℕ) → IsConsistent line → IsRun line tries steps
+    → refused_in (moves_of line steps) t ≡ refusals_said (state_after line tries steps) t
 refused_is line tries [] t laws run = refl
 refused_is line tries (step ∷ steps) t laws run =
     let s = state_after line tries steps in

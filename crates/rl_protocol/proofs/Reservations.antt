@@ -15,10 +15,14 @@ use Rattle.rl_protocol.proofs.Letters.{row_arms, letter_arm}
 use Rattle.rl_protocol.proofs.JobHolds.{heard_holds, denied_holds, passed_holds}
 
 -- with Yes the train's job says what its letter has changed
-reserved_heard : (line : Line) (s : State) (t : ℕ) (l : Letter) (u c i : ℕ) → is_held_by u (s.resv c i) ≡ holds line s u c i → s.mail t ≡ Yes l → job_holds line t (heard line t (s.trains t)) c i ≡ held_after l.verb (at l.to l.x c i) (job_holds line t (s.trains t) c i) → is_held_by u ((next line s (hear_yes t l)).resv c i) ≡ holds line (next line s (hear_yes t l)) u c i
+reserved_heard : (line : Line) (s : State) (t : ℕ) (l : Letter) (u c i : ℕ) → is_held_by u (s.resv c i) ≡ holds line s u c i → s.mail t ≡ Yes l
+    → job_holds line t (heard line t (s.trains t)) c i ≡ held_after l.verb (at l.to l.x c i) (job_holds line t (s.trains t) c i)
+    → is_held_by u ((next line s (hear_yes t l)).resv c i) ≡ holds line (next line s (hear_yes t l)) u c i
 reserved_heard line s t l u c i old mail same = grind (arith, nat_tests)
 
-pub reserved_kept : (line : Line) (tries : ℕ) (s : State) (step : Step) (u c i : ℕ) → IsConsistent line → ((t : ℕ) → AgreesOnAttempts line tries s t) → is_held_by u (s.resv c i) ≡ holds line s u c i → Fits line s step → Known line s step → is_held_by u ((next line s step).resv c i) ≡ holds line (next line s step) u c i
+pub reserved_kept : (line : Line) (tries : ℕ) (s : State) (step : Step) (u c i : ℕ) → IsConsistent line → ((t : ℕ) → AgreesOnAttempts line tries s t)
+    → is_held_by u (s.resv c i) ≡ holds line s u c i → Fits line s step → Known line s step
+    → is_held_by u ((next line s step).resv c i) ≡ holds line (next line s step) u c i
 reserved_kept line tries s (post t l) u c i laws attempts old fits known = grind (arith, nat_tests)
 reserved_kept line tries s (hear_no t l w job) u c i laws attempts old fits known = grind (arith, nat_tests, denied_holds)
 reserved_kept line tries s (go t) u c i laws attempts old fits known = grind (arith, nat_tests)
@@ -45,8 +49,14 @@ reserved_kept line tries s (hear_yes t l) u c i laws attempts old fits known =
     reserved_heard line s t l u c i old fits.2 (heard_holds line t c i (s.trains t) l laws on fits.1)
 
 -- arms that aren't there stay free: a letter names one that is there
-pub free_kept : (line : Line) (tries : ℕ) (s : State) (step : Step) (b x : ℕ) → IsConsistent line → ((t : ℕ) → AgreesOnAttempts line tries s t) → (line.has_arm b x ≡ false → s.resv b x ≡ None) → Fits line s step → Known line s step → line.has_arm b x ≡ false → (next line s step).resv b x ≡ None
-free_kept line tries s step b x laws attempts old fits known h = free_from line s step b x old fits known (λ t l waits is. letter_arm line (row_of line t (s.trains t)) (s.trains t).job l (row_arms line t (s.trains t).step laws ((attempts t).under_way (or_left (s.trains t).waits _ waits))) is) h
+pub free_kept : (line : Line) (tries : ℕ) (s : State) (step : Step) (b x : ℕ) → IsConsistent line → ((t : ℕ) → AgreesOnAttempts line tries s t)
+    → (line.has_arm b x ≡ false → s.resv b x ≡ None) → Fits line s step → Known line s step → line.has_arm b x ≡ false → (next line s step).resv b x ≡ None
+free_kept line tries s step b x laws attempts old fits known h =
+    free_from line s step b x old fits known
+    (λ t l waits is. letter_arm line (row_of line t (s.trains t)) (s.trains t).job l
+    (row_arms line t (s.trains t).step laws ((attempts t).under_way (or_left (s.trains t).waits _ waits))) is) h
   where
-    free_from : (line : Line) (s : State) (step : Step) (b x : ℕ) → (line.has_arm b x ≡ false → s.resv b x ≡ None) → Fits line s step → Known line s step → ((t : ℕ) (l : Letter) → (s.trains t).waits ≡ true → letter_of line t (s.trains t) ≡ Some l → line.has_arm l.to.0 l.x.0 ≡ true) → line.has_arm b x ≡ false → (next line s step).resv b x ≡ None
+    free_from : (line : Line) (s : State) (step : Step) (b x : ℕ) → (line.has_arm b x ≡ false → s.resv b x ≡ None) → Fits line s step → Known line s step
+        → ((t : ℕ) (l : Letter) → (s.trains t).waits ≡ true → letter_of line t (s.trains t) ≡ Some l → line.has_arm l.to.0 l.x.0 ≡ true)
+        → line.has_arm b x ≡ false → (next line s step).resv b x ≡ None
     free_from line s step b x old fits known there h = grind (arith, nat_tests, there)

@@ -21,12 +21,17 @@ use Rattle.rl_protocol.specs.StepMoves.{seg_at}
 use Rattle.rl_protocol.specs.Worlds.{IsLineOf, world_at}
 use Rattle.rl_protocol.proofs.Places.{ArePlaced}
 
-module _ (arm segment : ℕ → ℕ → Option ℕ) (to_segment : (s b x : ℕ) → arm s b ≡ Some x → segment b x ≡ Some s) (resv : ℕ → ℕ → Option TrainId) (t s b x : ℕ) (there : segment b x ≡ Some s) (here : arm s b ≡ Some x) where
-  reserve_one : resv b x ≡ None → (u r c : ℕ) (o : Option ℕ) → arm r c ≡ o → option_map_or (λ i. is_held_by u (put_at resv b x (Some (train t)) c i)) o false ≡ (option_map_or (λ i. is_held_by u (resv c i)) o false || (u == t && r == s && c == b))
+module _ (arm segment : ℕ → ℕ → Option ℕ) (to_segment : (s b x : ℕ) → arm s b ≡ Some x → segment b x ≡ Some s) (resv : ℕ → ℕ → Option TrainId) (t s b x : ℕ)
+    (there : segment b x ≡ Some s) (here : arm s b ≡ Some x) where
+  reserve_one : resv b x ≡ None → (u r c : ℕ) (o : Option ℕ) → arm r c ≡ o
+      → option_map_or (λ i. is_held_by u (put_at resv b x (Some (train t)) c i)) o false
+      ≡ (option_map_or (λ i. is_held_by u (resv c i)) o false || (u == t && r == s && c == b))
   reserve_one free u r c None is = grind (arith, nat_tests)
   reserve_one free u r c (Some i) is = grind (arith, nat_tests, to_segment r c i is)
 
-  release_one : resv b x ≡ Some (train t) → (u r c : ℕ) (o : Option ℕ) → arm r c ≡ o → option_map_or (λ i. is_held_by u (put_at resv b x None c i)) o false ≡ (option_map_or (λ i. is_held_by u (resv c i)) o false && not (u == t && r == s && c == b))
+  release_one : resv b x ≡ Some (train t) → (u r c : ℕ) (o : Option ℕ) → arm r c ≡ o
+      → option_map_or (λ i. is_held_by u (put_at resv b x None c i)) o false
+      ≡ (option_map_or (λ i. is_held_by u (resv c i)) o false && not (u == t && r == s && c == b))
   release_one held u r c None is = grind (arith, nat_tests)
   release_one held u r c (Some i) is = grind (arith, nat_tests, to_segment r c i is)
 
@@ -40,28 +45,36 @@ pub there_at : (net : NetworkPlan) (line : Line) (b x : ℕ) → IsLineOf net li
 there_at net line b x of h = of.segment b x ∙ ap (λ c. cond c (Some (line.segment b x).0) None) h
 
 -- what a train holds there is what the word of the box says
-pub held_at : (net : NetworkPlan) (s : State) (t segment b x : ℕ) → arm_of net segment b ≡ Some x → (world_at net s).holds t segment b ≡ is_held_by t (s.resv b x)
+pub held_at : (net : NetworkPlan) (s : State) (t segment b x : ℕ) → arm_of net segment b ≡ Some x
+    → (world_at net s).holds t segment b ≡ is_held_by t (s.resv b x)
 held_at net s t segment b x here = ap (λ o. option_map_or (λ i. is_held_by t (s.resv b i)) o false) here
 
-module _ (net : NetworkPlan) (line : Line) (s : State) (b t : ℕ) (l : Letter) (are : ArePlaced net) (of : IsLineOf net line) (there : line.has_arm b l.x.0 ≡ true) where
+module _ (net : NetworkPlan) (line : Line) (s : State) (b t : ℕ) (l : Letter) (are : ArePlaced net) (of : IsLineOf net line)
+    (there : line.has_arm b l.x.0 ≡ true) where
   segment_there : segment_at net b l.x.0 ≡ Some (seg_at line b l.x).0
   segment_there = there_at net line b l.x.0 of there
 
   arm_there : arm_of net (seg_at line b l.x).0 b ≡ Some l.x.0
   arm_there = are.to_arm (seg_at line b l.x).0 b l.x.0 segment_there
 
-  pub grant_moves : s.resv b l.x.0 ≡ None → IsMove net (world_at net s) (world_at net (next line s (grant b t l))) (moves.Reserve (train t) (seg_at line b l.x) (box b))
+  pub grant_moves : s.resv b l.x.0 ≡ None
+      → IsMove net (world_at net s) (world_at net (next line s (grant b t l))) (moves.Reserve (train t) (seg_at line b l.x) (box b))
   grant_moves free =
       record {
         guarded = (ap is_some arm_there, (λ u. held_at net s u (seg_at line b l.x).0 b l.x.0 arm_there ∙ ap (is_held_by u) free, tt));
         world = ap (λ h. record (world_at net s) { holds = h })
-            (fun_ext (λ u. fun_ext (λ r. fun_ext (λ c. reserve_one (arm_of net) (segment_at net) are.to_segment s.resv t (seg_at line b l.x).0 b l.x.0 segment_there arm_there free u r c (arm_of net r c) refl))));
+            (fun_ext (λ u. fun_ext (λ r. fun_ext
+            (λ c. reserve_one (arm_of net) (segment_at net) are.to_segment s.resv t (seg_at line b l.x).0 b l.x.0 segment_there arm_there free u r c
+            (arm_of net r c) refl))));
       }
 
-  pub release_moves : s.resv b l.x.0 ≡ Some (train t) → (world_at net s).occupies t (seg_at line b l.x).0 ≡ false → IsMove net (world_at net s) (world_at net (next line s (release b t l))) (moves.Release (train t) (seg_at line b l.x) (box b))
+  pub release_moves : s.resv b l.x.0 ≡ Some (train t) → (world_at net s).occupies t (seg_at line b l.x).0 ≡ false
+      → IsMove net (world_at net s) (world_at net (next line s (release b t l))) (moves.Release (train t) (seg_at line b l.x) (box b))
   release_moves held off =
       record {
         guarded = (ap is_some arm_there, (held_at net s t (seg_at line b l.x).0 b l.x.0 arm_there ∙ ap (is_held_by t) held ∙ eq-eqb t t refl, (off, tt)));
         world = ap (λ h. record (world_at net s) { holds = h })
-            (fun_ext (λ u. fun_ext (λ r. fun_ext (λ c. release_one (arm_of net) (segment_at net) are.to_segment s.resv t (seg_at line b l.x).0 b l.x.0 segment_there arm_there held u r c (arm_of net r c) refl))));
+            (fun_ext (λ u. fun_ext (λ r. fun_ext
+            (λ c. release_one (arm_of net) (segment_at net) are.to_segment s.resv t (seg_at line b l.x).0 b l.x.0 segment_there arm_there held u r c
+            (arm_of net r c) refl))));
       }

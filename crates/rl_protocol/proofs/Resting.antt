@@ -58,7 +58,8 @@ module _ (line : Line) (tries : ℕ) (s : State) (agrees : Agrees line tries s) 
       stands.0 ∙ ap (λ c. Clear (cond c ((s.trains t).step + 1) (s.trains t).step)) (beginning_place (s.trains t).job may_begin)
 
 -- a path of a lock is its own
-own_lock : (w : LockWord) (p : Path) → ((t x y : ℕ) → is_locked_by w t x y ≡ false) → ((u x y : ℕ) → is_locked_by w u x y ≡ (p.train.0 == u && p.x.0 == x && p.y.0 == y)) → ⊥
+own_lock : (w : LockWord) (p : Path) → ((t x y : ℕ) → is_locked_by w t x y ≡ false)
+    → ((u x y : ℕ) → is_locked_by w u x y ≡ (p.train.0 == u && p.x.0 == x && p.y.0 == y)) → ⊥
 own_lock w p none is =
     both_ways _ (none p.train.0 p.x.0 p.y.0)
     (is p.train.0 p.x.0 p.y.0 ∙ and_from _ _ (and_from _ _ (eq-eqb p.train.0 p.train.0 refl) (eq-eqb p.x.0 p.x.0 refl)) (eq-eqb p.y.0 p.y.0 refl))
@@ -92,8 +93,11 @@ route_there net t k network h within =
     let train = item_there net.trains t h in
     let steps : steps_of net t ≡ length train.0.boxes = ap (λ o. option_map_or (λ (r : Train). length r.boxes) o 0) train.1 in
     let shape = (network.trains t train.0 train.1).shape in
-    let item = item_there train.0.segments k (omega arith) in
-    (item.0.0, ap (option_and_then (λ (r : Train). option_map (λ (x : SegId). x.0) (slice_get r.segments k))) train.1 ∙ ap (option_map (λ (x : SegId). x.0)) item.1)
+    let item = item_there train.0.segments k (omega arith) in (
+      item.0.0,
+      ap (option_and_then (λ (r : Train). option_map (λ (x : SegId). x.0) (slice_get r.segments k))) train.1
+          ∙ ap (option_map (λ (x : SegId). x.0)) item.1,
+    )
 
 -- who has no lock by the arms has none by the segments
 unlocked_segments : (segments : ℕ → Option ℕ) (w : LockWord) (t f g : ℕ) → ((x y : ℕ) → is_locked_by w t x y ≡ false) → locks segments w t f g ≡ false
@@ -104,7 +108,8 @@ unlocked_segments segments (Moved p) t f g none = let own = none p.x.0 p.y.0 in 
 unlocked_segments segments (Locked p) t f g none = let own = none p.x.0 p.y.0 in grind (arith, nat_tests)
 
 -- a train at rest rests in the world
-pub rests_in_world : (net : NetworkPlan) (line : Line) (tries : ℕ) (s : State) (t : ℕ) → IsRailway net line → Agrees line tries s → t < length net.trains → at_rest line t (s.trains t) ≡ true → Rests net (world_at net s) t
+pub rests_in_world : (net : NetworkPlan) (line : Line) (tries : ℕ) (s : State) (t : ℕ) → IsRailway net line → Agrees line tries s → t < length net.trains
+    → at_rest line t (s.trains t) ≡ true → Rests net (world_at net s) t
 rests_in_world net line tries s t is agrees there rests =
     let k = (s.trains t).step in
     let run = rest_run line tries s agrees t rests in
@@ -117,7 +122,8 @@ rests_in_world net line tries s t is agrees there rests =
       unlocked = λ b from to. unlocked_segments (segment_at net b) (s.lock b) t from to (λ x y. rest_unlocked line tries s agrees t rests b x y);
     }
   where
-    at_arm : (r b segment : ℕ) → route_segment net t (s.trains t).step ≡ Some segment → (o : Option ℕ) → arm_of net r b ≡ o → option_map_or (λ x. is_held_by t (s.resv b x)) o false ≡ (r == segment && is_some o)
+    at_arm : (r b segment : ℕ) → route_segment net t (s.trains t).step ≡ Some segment → (o : Option ℕ) → arm_of net r b ≡ o
+        → option_map_or (λ x. is_held_by t (s.resv b x)) o false ≡ (r == segment && is_some o)
     at_arm r b segment on None h = and_false (r == segment)
       where
         and_false : (c : Bool) → false ≡ (c && false)

@@ -73,7 +73,8 @@ turned kind x y Right h k = grind (arith, nat_tests)
 path_is : (p : Path) (t : ℕ) (l : Letter) → p.train.0 ≡ t → p.x.0 ≡ l.x.0 → p.y.0 ≡ l.y.0 → p ≡ path_of (train t) l
 path_is p t l e f g = grind arith
 
-module _ (line : Line) (tries : ℕ) (s : State) (laws : IsConsistent line) (agrees : Agrees line tries s) (b t : ℕ) (l : Letter) (serves : (s.boxes b).work ≡ Serve (train t) l) where
+module _ (line : Line) (tries : ℕ) (s : State) (laws : IsConsistent line) (agrees : Agrees line tries s) (b t : ℕ) (l : Letter)
+    (serves : (s.boxes b).work ≡ Serve (train t) l) where
   has : HasTaken line s b t l
   has = taken line s b t l agrees.mailboxes (agrees.mailboxes.serves b (train t) l serves)
 
@@ -135,7 +136,8 @@ module _ (line : Line) (tries : ℕ) (s : State) (laws : IsConsistent line) (agr
           let same : (x i : ℕ) → x ≡ i → is_held_by t (s.resv b x) ≡ true → is_held_by p.train.0 (s.resv b i) ≡ true → ⊥ =
           λ x i e h k. apart (one_holder p.train.0 t (s.resv b x) (subst (λ z. is_held_by p.train.0 (s.resv b z) ≡ true) (sym e) k) h) in
           ⊎_elim (λ e. same l.x.0 p.x.0 e held.0 theirs.0)
-          (λ h. ⊎_elim (λ e. same l.x.0 p.y.0 e held.0 theirs.1) (λ h. ⊎_elim (λ e. same l.y.0 p.x.0 e held.1 theirs.0) (λ e. same l.y.0 p.y.0 e held.1 theirs.1) h) h)
+          (λ h. ⊎_elim (λ e. same l.x.0 p.y.0 e held.0 theirs.1)
+          (λ h. ⊎_elim (λ e. same l.y.0 p.x.0 e held.1 theirs.0) (λ e. same l.y.0 p.y.0 e held.1 theirs.1) h) h)
           (stems l.x.0 l.y.0 p.x.0 p.y.0
           (subst (λ k. can_join k l.x.0 l.y.0 ≡ true) point (joined_at (s.trains t) t l.x.0 l.y.0 (own verb)))
           (subst (λ k. can_join k p.x.0 p.y.0 ≡ true) point (joined_at (s.trains p.train.0) p.train.0 p.x.0 p.y.0 path)))
@@ -153,9 +155,17 @@ module _ (line : Line) (tries : ℕ) (s : State) (laws : IsConsistent line) (agr
       mind : s.boxes b ≡ serving t l
       mind = mind_is (no_points verb)
 
-      side_of : (side : Side) → s.lock b ≡ Free side → (c : Bool) → arms_join (line.kind b) l.x.0 l.y.0 side ≡ c → HasStep line s (nodes.Box (box b)) (words.Lock (box b))
+      side_of : (side : Side) → s.lock b ≡ Free side → (c : Bool) → arms_join (line.kind b) l.x.0 l.y.0 side ≡ c
+          → HasStep line s (nodes.Box (box b)) (words.Lock (box b))
       side_of side is true h = record { step = lock_now b t l side; fits = (mind, verb, is, h); by_node = refl; on_word = refl }
-      side_of side is false h = record { step = lock_ask b t l side; fits = (mind, verb, is, h, turned (line.kind b) l.x.0 l.y.0 side h (joined_at (s.trains t) t l.x.0 l.y.0 (own verb))); by_node = refl; on_word = refl }
+      side_of side is false h =
+          record {
+            step = lock_ask b t l side;
+            fits =
+                (mind, verb, is, h, turned (line.kind b) l.x.0 l.y.0 side h (joined_at (s.trains t) t l.x.0 l.y.0 (own verb)));
+            by_node = refl;
+            on_word = refl;
+          }
 
       not_mine : (p : Path) → s.lock b ≡ Locked p → p.train.0 ≢ t
       not_mine p is = λ e.
@@ -179,8 +189,22 @@ module _ (line : Line) (tries : ℕ) (s : State) (laws : IsConsistent line) (agr
       ∙ and_from _ _ (and_from _ _ (eq-eqb _ _ (path.at_box ∙ has.to)) (eq-eqb _ _ path.at_x)) (eq-eqb _ _ path.at_y) in
       let set = set_lock (s.lock b) t l.x.0 l.y.0 mine (λ p e. agrees.mailboxes.serves_one b (train t) l p serves (agrees.locks.waiting b ∙ e)) in
       let none : (s.boxes b).waiting ≡ None = agrees.locks.waiting b ∙ ap path_in_setting set.1 in
-      let side = has_side (line.kind b) l.x.0 l.y.0 (joined_at (s.trains t) t l.x.0 l.y.0 (subst (λ c. IsOwnPath line t (s.trains t) c l.x.0 l.y.0) has.to path)) in
-      record { step = unlock b t l side.0; fits = (mind_is none, verb, set.1 ∙ ap (λ p. Locked p) (path_is set.0 t l (eqb-true _ _ (and_parts _ _ (and_parts _ _ (sym (ap (λ w. is_locked_by w t l.x.0 l.y.0) set.1) ∙ mine)).0).0) set.2 set.3), side.1); by_node = refl; on_word = refl }
+      let side = has_side (line.kind b) l.x.0 l.y.0
+      (joined_at (s.trains t) t l.x.0 l.y.0 (subst (λ c. IsOwnPath line t (s.trains t) c l.x.0 l.y.0) has.to path)) in
+      record {
+        step = unlock b t l side.0;
+        fits = (
+          mind_is none,
+          verb,
+          set.1
+              ∙ ap (λ p. Locked p) (path_is set.0 t l
+              (eqb-true _ _ (and_parts _ _ (and_parts _ _ (sym (ap (λ w. is_locked_by w t l.x.0 l.y.0) set.1) ∙ mine)).0).0) set.2 set.3),
+          side.1,
+        );
+        by_node =
+            refl;
+        on_word = refl;
+      }
 
   pub served : HasStep line s (nodes.Box (box b)) (word_for b l.verb)
   served = of l.verb refl
@@ -192,8 +216,10 @@ module _ (line : Line) (tries : ℕ) (s : State) (laws : IsConsistent line) (agr
       of verbs.Unlock e = serves_unlock e
 
 -- and a box that says has its answer to say
-pub says_step : (line : Line) (tries : ℕ) (s : State) (b : ℕ) (t : TrainId) (l : Letter) (answer : Answer) → Agrees line tries s → (s.boxes b).work ≡ Say t l answer → HasStep line s (nodes.Box (box b)) (words.Mail t)
-says_step line tries s b t l answers.Yes agrees says = record { step = say_yes b t.0 l; fits = (says, (agrees.mailboxes.says b t l answers.Yes says).0); by_node = refl; on_word = refl }
+pub says_step : (line : Line) (tries : ℕ) (s : State) (b : ℕ) (t : TrainId) (l : Letter) (answer : Answer) → Agrees line tries s
+    → (s.boxes b).work ≡ Say t l answer → HasStep line s (nodes.Box (box b)) (words.Mail t)
+says_step line tries s b t l answers.Yes agrees says =
+    record { step = say_yes b t.0 l; fits = (says, (agrees.mailboxes.says b t l answers.Yes says).0); by_node = refl; on_word = refl }
 says_step line tries s b t l (answers.No u) agrees says =
     record {
       step = say_no b t.0 l u;
@@ -202,7 +228,8 @@ says_step line tries s b t l (answers.No u) agrees says =
       on_word = refl;
     }
 
-pub at_work : (line : Line) (tries : ℕ) (s : State) (b : ℕ) (word : WordKind) → IsConsistent line → Agrees line tries s → word_at_work b (s.boxes b).work ≡ Some word → HasStep line s (nodes.Box (box b)) word
+pub at_work : (line : Line) (tries : ℕ) (s : State) (b : ℕ) (word : WordKind) → IsConsistent line → Agrees line tries s
+    → word_at_work b (s.boxes b).work ≡ Some word → HasStep line s (nodes.Box (box b)) word
 at_work line tries s b word laws agrees h = of (s.boxes b).work refl h
   where
     of : (work : Work) → (s.boxes b).work ≡ work → word_at_work b work ≡ Some word → HasStep line s (nodes.Box (box b)) word

@@ -26,7 +26,8 @@ can_at kind x y Left h = grind arith
 can_at kind x y Right h = grind arith
 
 -- where the box connects the arms as it stands, its points stay
-pub stands_now : (kind : Kind) (x y : ℕ) (side : Side) → arms_join kind x y side ≡ true → standing kind (unwrap_or (joining_side kind x y) Left) ≡ standing kind side
+pub stands_now : (kind : Kind) (x y : ℕ) (side : Side) → arms_join kind x y side ≡ true
+    → standing kind (unwrap_or (joining_side kind x y) Left) ≡ standing kind side
 stands_now Buffer x y side h = refl
 stands_now Joint x y side h = refl
 stands_now Point x y Left h = grind (arith, nat_tests)
@@ -34,7 +35,8 @@ stands_now Point x y Right h = grind (arith, nat_tests)
 stands_now Crossing x y side h = refl
 
 -- where it asks for the points they stand at the other side
-pub stands_asked : (kind : Kind) (x y : ℕ) (side : Side) → arms_join kind x y side ≡ false → arms_join kind x y (other_side side) ≡ true → standing kind (other_side (unwrap_or (joining_side kind x y) Left)) ≡ standing kind side
+pub stands_asked : (kind : Kind) (x y : ℕ) (side : Side) → arms_join kind x y side ≡ false → arms_join kind x y (other_side side) ≡ true
+    → standing kind (other_side (unwrap_or (joining_side kind x y) Left)) ≡ standing kind side
 stands_asked Buffer x y side h k = refl
 stands_asked Joint x y side h k = refl
 stands_asked Point x y Left h k = grind (arith, nat_tests)
@@ -45,7 +47,8 @@ stands_asked Crossing x y side h k = refl
 pub has_side : (kind : Kind) (x y : ℕ) → can_join kind x y ≡ true → (side : Side) × (joining_side kind x y ≡ Some side) × (arms_join kind x y side ≡ true)
 has_side kind x y h = of (arms_join kind x y Left) (arms_join kind x y Right) refl refl h
   where
-    of : (p q : Bool) → arms_join kind x y Left ≡ p → arms_join kind x y Right ≡ q → (p || q) ≡ true → (side : Side) × (cond p (Some Left) (cond q (Some Right) None) ≡ Some side) × (arms_join kind x y side ≡ true)
+    of : (p q : Bool) → arms_join kind x y Left ≡ p → arms_join kind x y Right ≡ q → (p || q) ≡ true
+        → (side : Side) × (cond p (Some Left) (cond q (Some Right) None) ≡ Some side) × (arms_join kind x y side ≡ true)
     of true q e f h = (Left, refl, e)
     of false true e f h = (Right, refl, f)
     of false false e f h = absurd (false≢true h)

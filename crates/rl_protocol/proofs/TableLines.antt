@@ -38,7 +38,8 @@ same_test false true h k = k refl
 same_test false false h k = refl
 
 -- a train and its row that are there
-row_there : (tables : Tables) (t k : ℕ) → k < (line_of tables).steps t → (x : TrainTable) × (row : StepRow) × (slice_get tables.trains t ≡ Some x) × (slice_get x.rows k ≡ Some row) × ((line_of tables).row t k ≡ row)
+row_there : (tables : Tables) (t k : ℕ) → k < (line_of tables).steps t
+    → (x : TrainTable) × (row : StepRow) × (slice_get tables.trains t ≡ Some x) × (slice_get x.rows k ≡ Some row) × ((line_of tables).row t k ≡ row)
 row_there tables t k h = of (slice_get tables.trains t) refl h
   where
     in_list : (rows : List StepRow) (j : ℕ) → j < length rows → (row : StepRow) × (slice_get rows j ≡ Some row)
@@ -46,22 +47,32 @@ row_there tables t k h = of (slice_get tables.trains t) refl h
     in_list (r ∷ rows) zero h = (r, refl)
     in_list (r ∷ rows) (suc j) h = in_list rows j (omega arith)
 
-    of : (o : Option TrainTable) → slice_get tables.trains t ≡ o → k < option_map_or (λ (x : TrainTable). length x.rows) o 0 → (x : TrainTable) × (row : StepRow) × (slice_get tables.trains t ≡ Some x) × (slice_get x.rows k ≡ Some row) × (unwrap_or (option_and_then (λ (x : TrainTable). slice_get x.rows k) (slice_get tables.trains t)) no_row ≡ row)
+    of : (o : Option TrainTable) → slice_get tables.trains t ≡ o → k < option_map_or (λ (x : TrainTable). length x.rows) o 0
+        → (x : TrainTable) × (row : StepRow) × (slice_get tables.trains t ≡ Some x) × (slice_get x.rows k ≡ Some row)
+        × (unwrap_or (option_and_then (λ (x : TrainTable). slice_get x.rows k) (slice_get tables.trains t)) no_row ≡ row)
     of None e h = absurd (omega arith)
     of (Some x) e h =
-        let there = in_list x.rows k h in
-        (x, there.0, e, there.1, ap (λ o. unwrap_or (option_and_then (λ (x : TrainTable). slice_get x.rows k) o) no_row) e ∙ ap (λ o. unwrap_or o no_row) there.1)
+        let there = in_list x.rows k h in (
+          x,
+          there.0,
+          e,
+          there.1,
+          ap (λ o. unwrap_or (option_and_then (λ (x : TrainTable). slice_get x.rows k) o) no_row) e
+              ∙ ap (λ o. unwrap_or o no_row) there.1,
+        )
 
 -- the route of a train that is there
 route_is : (tables : Tables) (t k : ℕ) (x : TrainTable) → slice_get tables.trains t ≡ Some x → route_of tables t k ≡ segment_of_route x k
 route_is tables t k x e = ap (option_and_then (λ (x : TrainTable). segment_of_route x k)) e
 
 -- the segment where a step begins, and where it goes
-from_is : (tables : Tables) (t k : ℕ) (x : TrainTable) (row : StepRow) → IsLine tables → slice_get tables.trains t ≡ Some x → slice_get x.rows k ≡ Some row → segment_of_route x k ≡ Some row.s.0
+from_is : (tables : Tables) (t k : ℕ) (x : TrainTable) (row : StepRow) → IsLine tables → slice_get tables.trains t ≡ Some x → slice_get x.rows k ≡ Some row
+    → segment_of_route x k ≡ Some row.s.0
 from_is tables t zero x row line e f = ap (λ n. Some n) (sym ((line.trains t x e).first row f))
 from_is tables t (suc j) x row line e f =
     let before = earlier x.rows j row f in
-    ap (option_map (λ (r : StepRow). r.s2.0)) before.1 ∙ ap (λ n. Some n) (sym ((line.trains t x e).chained j before.0 row before.1 (subst (λ n. slice_get x.rows n ≡ Some row) (next_of j) f)))
+    ap (option_map (λ (r : StepRow). r.s2.0)) before.1
+    ∙ ap (λ n. Some n) (sym ((line.trains t x e).chained j before.0 row before.1 (subst (λ n. slice_get x.rows n ≡ Some row) (next_of j) f)))
   where
     next_of : (n : ℕ) → suc n ≡ n + 1
     next_of n = omega arith
@@ -83,7 +94,8 @@ arm_is tables b x s line h =
     option_and_then_some (λ (y : BoxTable). segment_number y x) (slice_get tables.boxes b) s h
     (λ y there is. record {
       box = slice_get_within tables.boxes b y there;
-      among = subst (λ k. x < arms_of k) (sym (ap (λ o. option_map_or (λ (z : BoxTable). z.kind) o Buffer) there)) (ltb-true x (arms_of y.kind) (sym ((line.boxes b y there).arms x) ∙ some_in (segment_in y x) s is));
+      among = subst (λ k. x < arms_of k) (sym (ap (λ o. option_map_or (λ (z : BoxTable). z.kind) o Buffer) there))
+          (ltb-true x (arms_of y.kind) (sym ((line.boxes b y there).arms x) ∙ some_in (segment_in y x) s is));
       segment = h;
     })
   where
@@ -92,7 +104,8 @@ arm_is tables b x s line h =
     some_in (Some z) n h = refl
 
 -- a segment that is at two places and no other is at a place exactly where that is one of them
-only_places : (tables : Tables) (s c d : ℕ) (x y : ℕ) → IsLine tables → IsArm tables c x s → IsArm tables d y s → IsOnlyAt tables s c x d y → (b z : ℕ) → same_number (line_segment tables b z) (Some s) ≡ ((c == b && x == z) || (d == b && y == z))
+only_places : (tables : Tables) (s c d : ℕ) (x y : ℕ) → IsLine tables → IsArm tables c x s → IsArm tables d y s → IsOnlyAt tables s c x d y → (b z : ℕ)
+    → same_number (line_segment tables b z) (Some s) ≡ ((c == b && x == z) || (d == b && y == z))
 only_places tables s c d x y line one other only b z = same_test _ _ there back
   where
     is_there : (o : Option ℕ) → same_number o (Some s) ≡ true → o ≡ Some s
@@ -130,9 +143,12 @@ row_is tables t k line h =
     let to : route_of tables t (k + 1) ≡ Some row.s2.0 = route_is tables t (k + 1) x there.2 ∙ to_is x k row there.3 in
     subst (λ r. IsStepOf (line_of tables) t k r) (sym there.4)
     (record {
-      here = λ b z. ap (same_number (line_segment tables b z)) from ∙ only_places tables row.s.0 row.b.0 row.a.0 row.x.0 row.a_arm.0 line is.here is.back is.back_only b z;
-      ahead = λ b z. ap (same_number (line_segment tables b z)) to ∙ only_places tables row.s2.0 row.b.0 row.c.0 row.y.0 row.c_arm.0 line is.near is.far is.far_only b z;
-      apart = λ b z h. ap (same_number (line_segment tables b z)) to ∙ one_segment (line_segment tables b z) row.s.0 row.s2.0 is.apart (sym (ap (same_number (line_segment tables b z)) from) ∙ h);
+      here = λ b z. ap (same_number (line_segment tables b z)) from
+          ∙ only_places tables row.s.0 row.b.0 row.a.0 row.x.0 row.a_arm.0 line is.here is.back is.back_only b z;
+      ahead = λ b z. ap (same_number (line_segment tables b z)) to
+          ∙ only_places tables row.s2.0 row.b.0 row.c.0 row.y.0 row.c_arm.0 line is.near is.far is.far_only b z;
+      apart = λ b z h. ap (same_number (line_segment tables b z)) to
+          ∙ one_segment (line_segment tables b z) row.s.0 row.s2.0 is.apart (sym (ap (same_number (line_segment tables b z)) from) ∙ h);
       back_apart = is.back_apart;
       far_apart = is.far_apart;
       joined = is.joined;
@@ -143,7 +159,8 @@ found_at : {A : Type 0} (p : A → Bool) (xs : List A) (x : A) → find p xs ≡
 found_at p [] x h = absurd (cc)
 found_at {A} p (y ∷ ys) x h = of (p y) refl h (λ e. found_at p ys x e)
   where
-    of : (c : Bool) → p y ≡ c → cond c (Some y) (find p ys) ≡ Some x → (find p ys ≡ Some x → (i : ℕ) × (slice_get ys i ≡ Some x) × (p x ≡ true)) → (i : ℕ) × (slice_get (y ∷ ys) i ≡ Some x) × (p x ≡ true)
+    of : (c : Bool) → p y ≡ c → cond c (Some y) (find p ys) ≡ Some x → (find p ys ≡ Some x → (i : ℕ) × (slice_get ys i ≡ Some x) × (p x ≡ true))
+        → (i : ℕ) × (slice_get (y ∷ ys) i ≡ Some x) × (p x ≡ true)
     of true e h later = (zero, h, subst (λ (z : A). p z ≡ true) (same_Some y x h) e)
     of false e h later = let at = later h in (suc at.0, at.1, at.2)
 
@@ -151,7 +168,8 @@ some_found : {A : Type 0} (p : A → Bool) (xs : List A) (i : ℕ) (x : A) → s
 some_found p [] i x h pass = absurd (cc)
 some_found {A} p (y ∷ ys) i x h pass = of (p y) refl i h (λ j k. some_found p ys j x k pass)
   where
-    of : (c : Bool) → p y ≡ c → (i : ℕ) → slice_get (y ∷ ys) i ≡ Some x → ((j : ℕ) → slice_get ys j ≡ Some x → (z : A) × (find p ys ≡ Some z)) → (z : A) × (cond c (Some y) (find p ys) ≡ Some z)
+    of : (c : Bool) → p y ≡ c → (i : ℕ) → slice_get (y ∷ ys) i ≡ Some x → ((j : ℕ) → slice_get ys j ≡ Some x → (z : A) × (find p ys ≡ Some z))
+        → (z : A) × (cond c (Some y) (find p ys) ≡ Some z)
     of true e i h later = (y, refl)
     of false e zero h later = absurd (false≢true (sym e ∙ ap p (same_Some y x h) ∙ pass))
     of false e (suc j) h later = later j h
@@ -163,7 +181,8 @@ holder_is tables t s line = same_test _ _ there back
     begins_at : TrainTable → Bool
     begins_at x = x.first.0 == s
 
-    by_number : (o : Option TrainTable) → find (λ (x : TrainTable). x.first.0 == s) tables.trains ≡ o → is_held_by t (option_map (λ (x : TrainTable). x.number) o) ≡ true → is_number (route_of tables t 0) s ≡ true
+    by_number : (o : Option TrainTable) → find (λ (x : TrainTable). x.first.0 == s) tables.trains ≡ o
+        → is_held_by t (option_map (λ (x : TrainTable). x.number) o) ≡ true → is_number (route_of tables t 0) s ≡ true
     by_number None e h = absurd (false≢true h)
     by_number (Some x) e h =
         let at = found_at (λ (x : TrainTable). x.first.0 == s) tables.trains x e in
@@ -173,7 +192,8 @@ holder_is tables t s line = same_test _ _ there back
     there : is_held_by t (holder_of tables s) ≡ true → is_number (route_of tables t 0) s ≡ true
     there h = by_number (find (λ (x : TrainTable). x.first.0 == s) tables.trains) refl h
 
-    by_train : (o : Option TrainTable) → slice_get tables.trains t ≡ o → is_number (option_and_then (λ (x : TrainTable). segment_of_route x 0) o) s ≡ true → is_held_by t (holder_of tables s) ≡ true
+    by_train : (o : Option TrainTable) → slice_get tables.trains t ≡ o → is_number (option_and_then (λ (x : TrainTable). segment_of_route x 0) o) s ≡ true
+        → is_held_by t (holder_of tables s) ≡ true
     by_train None e h = absurd (false≢true h)
     by_train (Some x) e h =
         let some = some_found (λ (x : TrainTable). x.first.0 == s) tables.trains t x e h in
@@ -206,14 +226,17 @@ few_trains tables t h = ap (λ o. option_map_or (λ (x : TrainTable). length x.r
 
 module _ (net : NetworkPlan) (tables : Tables) (network : IsNetwork net) (are : AreTablesOf net tables) where
   -- an item that is there, or past the end of both lists
-  box_cases : (b : ℕ) {P : Type 0} → ((x : BoxTable) → slice_get tables.boxes b ≡ Some x → P) → (slice_get tables.boxes b ≡ None → slice_get net.boxes b ≡ None → P) → P
+  box_cases : (b : ℕ) {P : Type 0} → ((x : BoxTable) → slice_get tables.boxes b ≡ Some x → P)
+      → (slice_get tables.boxes b ≡ None → slice_get net.boxes b ≡ None → P) → P
   box_cases b {P} there past = of (slice_get tables.boxes b) refl
     where
       of : (o : Option BoxTable) → slice_get tables.boxes b ≡ o → P
       of (Some x) e = there x e
-      of None e = past e (slice_get_past net.boxes b (⊎_elim (λ h. absurd (none_within tables.boxes b e (subst (λ n. b < n) (sym are.boxes.length_is) h))) (λ h. h) (cases_lt b (length net.boxes))))
+      of None e = past e (slice_get_past net.boxes b
+          (⊎_elim (λ h. absurd (none_within tables.boxes b e (subst (λ n. b < n) (sym are.boxes.length_is) h))) (λ h. h) (cases_lt b (length net.boxes))))
 
-  train_cases : (t : ℕ) {P : Type 0} → ((x : TrainTable) (r : Train) → slice_get tables.trains t ≡ Some x → slice_get net.trains t ≡ Some r → P) → (slice_get tables.trains t ≡ None → slice_get net.trains t ≡ None → P) → P
+  train_cases : (t : ℕ) {P : Type 0} → ((x : TrainTable) (r : Train) → slice_get tables.trains t ≡ Some x → slice_get net.trains t ≡ Some r → P)
+      → (slice_get tables.trains t ≡ None → slice_get net.trains t ≡ None → P) → P
   train_cases t {P} there past = of (slice_get tables.trains t) (slice_get net.trains t) refl refl
     where
       of : (o : Option TrainTable) (p : Option Train) → slice_get tables.trains t ≡ o → slice_get net.trains t ≡ p → P
@@ -235,7 +258,8 @@ module _ (net : NetworkPlan) (tables : Tables) (network : IsNetwork net) (are : 
   segments : (b x : ℕ) → line_segment tables b x ≡ segment_at net b x
   segments b x =
       box_cases b (λ y e. ap (option_and_then (λ (z : BoxTable). segment_number z x)) e ∙ (are.boxes.each b y e).segments x)
-      (λ e f. ap (option_and_then (λ (z : BoxTable). segment_number z x)) e ∙ ap (option_and_then (λ (z : SwitchBox). option_map (λ (s : SegId). s.0) (slice_get z.arms x))) (sym f))
+      (λ e f. ap (option_and_then (λ (z : BoxTable). segment_number z x)) e
+      ∙ ap (option_and_then (λ (z : SwitchBox). option_map (λ (s : SegId). s.0) (slice_get z.arms x))) (sym f))
 
   steps_are : (t : ℕ) → (line_of tables).steps t ≡ steps_of net t
   steps_are t =
@@ -248,9 +272,11 @@ module _ (net : NetworkPlan) (tables : Tables) (network : IsNetwork net) (are : 
   routes : (t k : ℕ) → route_of tables t k ≡ route_segment net t k
   routes t k =
       train_cases t (λ x r e f. route_is tables t k x e ∙ by_place x r e f k)
-      (λ e f. ap (option_and_then (λ (x : TrainTable). segment_of_route x k)) e ∙ ap (option_and_then (λ (r : Train). option_map (λ (s : SegId). s.0) (slice_get r.segments k))) (sym f))
+      (λ e f. ap (option_and_then (λ (x : TrainTable). segment_of_route x k)) e
+      ∙ ap (option_and_then (λ (r : Train). option_map (λ (s : SegId). s.0) (slice_get r.segments k))) (sym f))
     where
-      by_place : (x : TrainTable) (r : Train) → slice_get tables.trains t ≡ Some x → slice_get net.trains t ≡ Some r → (k : ℕ) → segment_of_route x k ≡ route_segment net t k
+      by_place : (x : TrainTable) (r : Train) → slice_get tables.trains t ≡ Some x → slice_get net.trains t ≡ Some r → (k : ℕ)
+          → segment_of_route x k ≡ route_segment net t k
       by_place x r e f zero = sym (are.trains.each t x e).first
       by_place x r e f (suc j) = of (slice_get x.rows j) refl
         where
@@ -260,10 +286,12 @@ module _ (net : NetworkPlan) (tables : Tables) (network : IsNetwork net) (are : 
           of : (o : Option StepRow) → slice_get x.rows j ≡ o → option_map (λ (row : StepRow). row.s2.0) o ≡ route_segment net t (suc j)
           of (Some row) g = sym (steps_at t x j row e g).step.to ∙ ap (route_segment net t) (next_of j)
           of None g =
-              let steps : length x.rows ≡ length r.boxes = (are.trains.each t x e).rows.length_is ∙ ap (λ o. option_map_or (λ (z : Train). length z.boxes) o 0) f in
+              let steps : length x.rows ≡ length r.boxes =
+              (are.trains.each t x e).rows.length_is ∙ ap (λ o. option_map_or (λ (z : Train). length z.boxes) o 0) f in
               let shape = (network.trains t r f).shape in
               let past : length r.segments ≤ suc j = ⊎_elim (λ h. absurd (none_within x.rows j g h)) (λ h. omega arith) (cases_lt j (length x.rows)) in
-              sym (ap (option_and_then (λ (z : Train). option_map (λ (s : SegId). s.0) (slice_get z.segments (suc j)))) f ∙ ap (option_map (λ (s : SegId). s.0)) (slice_get_past r.segments (suc j) past))
+              sym (ap (option_and_then (λ (z : Train). option_map (λ (s : SegId). s.0) (slice_get z.segments (suc j)))) f
+              ∙ ap (option_map (λ (s : SegId). s.0)) (slice_get_past r.segments (suc j) past))
 
   rows_are : (t k : ℕ) → k < (line_of tables).steps t → let row = (line_of tables).row t k in IsStep net t k row.s.0 row.b.0 row.s2.0
   rows_are t k h =

@@ -75,7 +75,8 @@ move_or_train net m t o network made refused e =
 pub move_or_end : (net : NetworkPlan) (m : Move) → IsNetwork net → whole_line (move_words net m) ≢ end_line
 move_or_end net m network e =
     let is = named net m in
-    let same : move_words net m ≡ codes "end" ∷ [] = sym (words_of_move net m network) ∙ ap (λ (l : Line). words_of l.text) e ∙ words_of-joined (codes "end") [] refl in
+    let same : move_words net m ≡ codes "end" ∷ [] =
+    sym (words_of_move net m network) ∙ ap (λ (l : Line). words_of l.text) e ∙ words_of-joined (codes "end") [] refl in
     let words = is.words in
     let first : name_word is.name ≡ codes "end" = cc in
     no_end_name is.name first
@@ -132,6 +133,7 @@ trains_agree net t u [] outcomes rest tail k few at counts same =
     }
 trains_agree net t u (o ∷ read) [] rest tail k few at counts same = absurd (omega arith)
 trains_agree net t u (o ∷ read) (o2 ∷ outcomes) rest tail k few at counts same =
-    let from = trains_agree net (suc t) u read outcomes rest tail k (omega arith) (omega arith) (λ j x is. counts (suc j) x is) (λ i h. same (suc i) (omega arith)) in
+    let from = trains_agree net (suc t) u read outcomes rest tail k (omega arith) (omega arith) (λ j x is. counts (suc j) x is)
+    (λ i h. same (suc i) (omega arith)) in
     let count = from.counted in
     record { others = from.others; counted = omega arith; counts = from.counts; same = from.same }

@@ -44,7 +44,8 @@ counts_then (suc n) [] counts (suc j) o at = counts_then n [] counts j o at
 counts_then n (p ∷ outcomes) counts zero o at = counts 0 o at
 counts_then n (p ∷ outcomes) counts (suc j) o at = counts_then n outcomes (λ i x is. counts (suc i) x is) j o at
 
-pub train_lines-append : (net : NetworkPlan) (t u : ℕ) (xs ys : List Outcome) → u ≡ t + length xs → train_lines net t (xs ++ ys) ≡ train_lines net t xs ++ train_lines net u ys
+pub train_lines-append : (net : NetworkPlan) (t u : ℕ) (xs ys : List Outcome) → u ≡ t + length xs
+    → train_lines net t (xs ++ ys) ≡ train_lines net t xs ++ train_lines net u ys
 train_lines-append net t u [] ys at = let here : u ≡ t = omega arith in rw here refl
 train_lines-append net t u (x ∷ xs) ys at = ap (λ lines. whole_line (outcome_words net t x) ∷ lines) (train_lines-append net (suc t) u xs ys (omega arith))
 
@@ -64,20 +65,25 @@ completed_of net text x reading read =
       outcomes = counts_then (length net.trains - length x.outcomes) x.outcomes read.outcomes;
     }
 
-front_completed : (net : NetworkPlan) (x : Report) → front_lines net (completed net x) ≡ front_lines net x ++ train_lines net (length x.outcomes) (blanks (length net.trains - length x.outcomes))
+front_completed : (net : NetworkPlan) (x : Report)
+    → front_lines net (completed net x) ≡ front_lines net x ++ train_lines net (length x.outcomes) (blanks (length net.trains - length x.outcomes))
 unfolding completed
 front_completed net x =
     ap (λ lines. head_line ∷ tries_line x.tries ∷ lines)
-    (ap (λ lines. move_lines net x.moves ++ lines) (train_lines-append net 0 (length x.outcomes) x.outcomes (blanks (length net.trains - length x.outcomes)) (omega arith))
-    ∙ sym (append_assoc (move_lines net x.moves) (train_lines net 0 x.outcomes) (train_lines net (length x.outcomes) (blanks (length net.trains - length x.outcomes)))))
+    (ap (λ lines. move_lines net x.moves ++ lines)
+    (train_lines-append net 0 (length x.outcomes) x.outcomes (blanks (length net.trains - length x.outcomes)) (omega arith))
+    ∙ sym (append_assoc (move_lines net x.moves) (train_lines net 0 x.outcomes)
+    (train_lines net (length x.outcomes) (blanks (length net.trains - length x.outcomes)))))
 
 -- a report begins with what was read of one
-begins_read : (net : NetworkPlan) (text : List ℕ) (x : Report) (reading : Reading) (k : ℕ) → IsNetwork net → HasRead net text x reading → k ≤ length (front_lines net x) → BeginsReport net text k
+begins_read : (net : NetworkPlan) (text : List ℕ) (x : Report) (reading : Reading) (k : ℕ) → IsNetwork net → HasRead net text x reading
+    → k ≤ length (front_lines net x) → BeginsReport net text k
 begins_read net text x reading k network read low =
     let of = completed_of net text x reading read in
     let more = train_lines net (length x.outcomes) (blanks (length net.trains - length x.outcomes)) in
     let lines : lines_of (report_text net (completed net x)) ≡ front_lines net x ++ (more ++ end_line ∷ []) =
-    lines_of-report net (completed net x) network of ∙ ap (λ front. front ++ end_line ∷ []) (front_completed net x) ∙ append_assoc (front_lines net x) more (end_line ∷ []) in
+    lines_of-report net (completed net x) network of ∙ ap (λ front. front ++ end_line ∷ []) (front_completed net x)
+    ∙ append_assoc (front_lines net x) more (end_line ∷ []) in
     record {
       report = completed net x;
       of = of;
@@ -106,7 +112,8 @@ given_is net text x reading read =
     let both = length-append (front_lines net x) reading.left in
     omega (arith, count, lines, both)
 
-shifted : (net : NetworkPlan) (x : Report) (rest : List Line) (i : ℕ) → slice_get (front_lines net x ++ rest) (suc (suc i)) ≡ slice_get (move_lines net x.moves ++ (train_lines net 0 x.outcomes ++ rest)) i
+shifted : (net : NetworkPlan) (x : Report) (rest : List Line) (i : ℕ)
+    → slice_get (front_lines net x ++ rest) (suc (suc i)) ≡ slice_get (move_lines net x.moves ++ (train_lines net 0 x.outcomes ++ rest)) i
 shifted net x rest i = ap (λ ls. slice_get ls i) (append_assoc (move_lines net x.moves) (train_lines net 0 x.outcomes) rest)
 
 -- a report whose lines are the same, and k more, goes on with the trains that were not read
@@ -120,13 +127,15 @@ behind net text x reading k network read some none begins =
     let trains = begins.of.trains in
     let long = length-front net x in
     let lines = lines_of-report net r network begins.of in
-    let same : Agree (length x.moves + (length x.outcomes + k)) (move_lines net x.moves ++ (train_lines net 0 x.outcomes ++ reading.left)) (move_lines net r.moves ++ (train_lines net 0 r.outcomes ++ end_line ∷ [])) =
+    let same : Agree (length x.moves + (length x.outcomes + k)) (move_lines net x.moves ++ (train_lines net 0 x.outcomes ++ reading.left))
+    (move_lines net r.moves ++ (train_lines net 0 r.outcomes ++ end_line ∷ [])) =
     λ i h.
     sym (shifted net x reading.left i) ∙ ap (λ ls. slice_get ls (suc (suc i))) (sym read.lines)
     ∙ begins.same (suc (suc i)) (omega arith)
     ∙ ap (λ ls. slice_get ls (suc (suc i))) lines ∙ shifted net r (end_line ∷ []) i in
     let none_read = trains_no_move net 0 x.outcomes reading.left network read.outcomes (λ e. no_move_from net reading.left (none e)) in
-    let none_there = trains_no_move net 0 r.outcomes (end_line ∷ []) network begins.of.outcomes (λ e m of is. move_or_end net m network (sym (same_Some _ _ is))) in
+    let none_there = trains_no_move net 0 r.outcomes (end_line ∷ []) network begins.of.outcomes
+    (λ e m of is. move_or_end net m network (sym (same_Some _ _ is))) in
     let rest = moves_agree net x.moves r.moves _ _ (length x.outcomes + k) (omega arith) read.moves begins.of.moves none_read none_there same in
     subst (λ n. OthersAgree net (length x.outcomes) (length x.outcomes) n k reading.left (end_line ∷ [])) trains
     (trains_agree net 0 (length x.outcomes) x.outcomes r.outcomes reading.left (end_line ∷ []) k (omega arith) (omega arith) begins.of.outcomes rest)
@@ -148,7 +157,8 @@ fault_from net text x reading n network read number none =
     }
 
 -- the next train's line isn't there
-pub no_train_fault : (net : NetworkPlan) (text : List ℕ) (x : Report) (reading : Reading) (n t : ℕ) → IsNetwork net → HasRead net text x reading → n ≡ reading.given + 1
+pub no_train_fault : (net : NetworkPlan) (text : List ℕ) (x : Report) (reading : Reading) (n t : ℕ) → IsNetwork net → HasRead net text x reading
+    → n ≡ reading.given + 1
     → length x.outcomes ≡ t → t < length net.trains
     → (x.outcomes ≡ [] → HasNoMove net reading.left)
     → HasNoTrain net t reading.left
@@ -167,7 +177,8 @@ no_train_fault net text x reading n t network read number at there none no_train
         (record { train = there; made = count.0; refused = count.1; line = rw at refl })
 
 -- all trains' lines were read, and the end isn't there
-pub no_end_fault : (net : NetworkPlan) (text : List ℕ) (x : Report) (reading : Reading) (n : ℕ) → IsNetwork net → HasRead net text x reading → n ≡ reading.given + 1
+pub no_end_fault : (net : NetworkPlan) (text : List ℕ) (x : Report) (reading : Reading) (n : ℕ) → IsNetwork net → HasRead net text x reading
+    → n ≡ reading.given + 1
     → length x.outcomes ≡ length net.trains
     → (x.outcomes ≡ [] → HasNoMove net reading.left)
     → (next_text reading.left ≡ Some (codes "end") → ⊥)
@@ -182,7 +193,8 @@ no_end_fault net text x reading n network read number all none no_end =
     the_end (o ∷ others) counted same = omega arith
 
 -- a line stands behind the end
-pub late_fault : (net : NetworkPlan) (text : List ℕ) (x : Report) (reading : Reading) (n : ℕ) (line : Line) (rest : List Line) → IsNetwork net → HasRead net text x reading
+pub late_fault : (net : NetworkPlan) (text : List ℕ) (x : Report) (reading : Reading) (n : ℕ) (line : Line) (rest : List Line) → IsNetwork net
+    → HasRead net text x reading
     → n ≡ reading.given + 2
     → length x.outcomes ≡ length net.trains
     → (x.outcomes ≡ [] → HasNoMove net reading.left)
@@ -255,7 +267,8 @@ begins_any net text =
       same = λ i h. absurd (omega arith);
     }
 
-pub no_head_fault : (net : NetworkPlan) (text : List ℕ) → IsNetwork net → (next_text (lines_of text) ≡ Some (codes "relis report 1") → ⊥) → IsFirstFault net text 1
+pub no_head_fault : (net : NetworkPlan) (text : List ℕ) → IsNetwork net → (next_text (lines_of text) ≡ Some (codes "relis report 1") → ⊥)
+    → IsFirstFault net text 1
 no_head_fault net text network none =
     record {
       before = begins_any net text;
@@ -287,5 +300,6 @@ no_tries_fault net text network head none =
           let r = begins.report in
           let lines = lines_of-report net r network begins.of in
           none r.tries begins.of.some_tries begins.of.few_tries
-          (next_is (drop 1 (lines_of text)) (codes "tries" ∷ decimal r.tries ∷ []) (second (lines_of text) ∙ begins.same 1 (omega arith) ∙ ap (λ ls. slice_get ls 1) lines));
+          (next_is (drop 1 (lines_of text)) (codes "tries" ∷ decimal r.tries ∷ [])
+          (second (lines_of text) ∙ begins.same 1 (omega arith) ∙ ap (λ ls. slice_get ls 1) lines));
     }

@@ -18,7 +18,8 @@ use Rattle.rl_report.proofs.Plain.{are_plain, plain_move, plain_outcome, plain_d
 abbrev is_lf : ℕ → Bool
 is_lf b = b == 10
 
-parts_cons : (part : List ℕ) (parts : List (List ℕ)) → 0 < length parts → lines_of_parts (part ∷ parts) ≡ record { text = part; whole = true } ∷ lines_of_parts parts
+parts_cons : (part : List ℕ) (parts : List (List ℕ)) → 0 < length parts
+    → lines_of_parts (part ∷ parts) ≡ record { text = part; whole = true } ∷ lines_of_parts parts
 parts_cons part [] h = absurd (omega arith)
 parts_cons part (next ∷ parts) h = refl
 
@@ -33,7 +34,8 @@ lines_of-words words rest h =
     ap lines_of (append_assoc (join_with_byte 32 words) (10 ∷ []) rest) ∙ lines_of-line (join_with_byte 32 words) rest (no_lf_in_joined words h)
 
 -- the lines of the moves
-lines_of-moves : (net : NetworkPlan) (moves : List Move) (rest : List ℕ) → IsNetwork net → lines_of (flat_map (move_line net) moves ++ rest) ≡ move_lines net moves ++ lines_of rest
+lines_of-moves : (net : NetworkPlan) (moves : List Move) (rest : List ℕ) → IsNetwork net
+    → lines_of (flat_map (move_line net) moves ++ rest) ≡ move_lines net moves ++ lines_of rest
 lines_of-moves net [] rest network = refl
 lines_of-moves net (m ∷ moves) rest network =
     ap lines_of (append_assoc (move_line net m) (flat_map (move_line net) moves) rest)
@@ -51,7 +53,8 @@ lines_of-trains net t [] rest network counts = refl
 lines_of-trains net t (o ∷ outcomes) rest network counts =
     let here = counts 0 o refl in
     ap lines_of (append_assoc (outcome_line net t o) (outcome_lines net (suc t) outcomes) rest)
-    ∙ lines_of-words (outcome_words net t o) (outcome_lines net (suc t) outcomes ++ rest) (plain_outcome net t o network (small o.made here.0) (small o.refused here.1))
+    ∙ lines_of-words (outcome_words net t o) (outcome_lines net (suc t) outcomes ++ rest)
+    (plain_outcome net t o network (small o.made here.0) (small o.refused here.1))
     ∙ ap (λ lines. whole_line (outcome_words net t o) ∷ lines) (lines_of-trains net (suc t) outcomes rest network (λ k p at. counts (suc k) p at))
 
 lines_of-head : (rest : List ℕ) → lines_of (codes "relis report 1\n" ++ rest) ≡ head_line ∷ lines_of rest
@@ -64,7 +67,8 @@ regroup : (a b c d e : List ℕ) → (((a ++ b) ++ c) ++ d) ++ e ≡ a ++ (b ++ 
 regroup a b c d e = simp append_assoc
 
 -- the lines of a report's text are the front lines and the end
-pub lines_of-report : (net : NetworkPlan) (report : Report) → IsNetwork net → IsReportOf net report → lines_of (report_text net report) ≡ front_lines net report ++ end_line ∷ []
+pub lines_of-report : (net : NetworkPlan) (report : Report) → IsNetwork net → IsReportOf net report
+    → lines_of (report_text net report) ≡ front_lines net report ++ end_line ∷ []
 lines_of-report net report network of =
     let tries = codes "tries" ∷ decimal report.tries ∷ [] in
     let moves = flat_map (move_line net) report.moves in

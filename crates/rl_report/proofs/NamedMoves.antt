@@ -27,7 +27,8 @@ named net (Refuse t s b u) = record { name = name.Refuse; others = _; words = re
 named net (Bar t b u) = record { name = name.Bar; others = _; words = refl }
 
 -- words that don't begin with one of the names are no move's
-pub none_unnamed : (net : NetworkPlan) (words : List (List ℕ)) → ((n : MoveName) (rest : List (List ℕ)) → words ≢ name_word n ∷ rest) → (m : Move) → words ≢ move_words net m
+pub none_unnamed : (net : NetworkPlan) (words : List (List ℕ)) → ((n : MoveName) (rest : List (List ℕ)) → words ≢ name_word n ∷ rest) → (m : Move)
+    → words ≢ move_words net m
 none_unnamed net words none m e =
     let is = named net m in
     none is.name is.others (e ∙ is.words)

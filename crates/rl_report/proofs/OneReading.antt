@@ -37,11 +37,14 @@ use Rattle.rl_report.proofs.Joined.{words_of-joined}
 use Rattle.rl_report.proofs.ReadLines.{same_train, one_train, tries_words, words_of_move, words_from_move_line, words_from_outcome_line}
 use Rattle.rl_report.proofs.Within.{none_within}
 
-train_is : (net : NetworkPlan) (t u : TrainId) → IsNetwork net → t.0 < length net.trains → u.0 < length net.trains → train_name net t.0 ≡ train_name net u.0 → t ≡ u
+train_is : (net : NetworkPlan) (t u : TrainId) → IsNetwork net → t.0 < length net.trains → u.0 < length net.trains → train_name net t.0 ≡ train_name net u.0
+    → t ≡ u
 train_is net t u network t_in u_in e = ap (λ (n : ℕ). let x : TrainId = record { 0 = n } in x) (same_train net t.0 u.0 network t_in u_in e)
 
-segment_is : (net : NetworkPlan) (s r : SegId) → IsNetwork net → s.0 < length net.segments → r.0 < length net.segments → segment_name net s.0 ≡ segment_name net r.0 → s ≡ r
-segment_is net s r network s_in r_in e = ap (λ (n : ℕ). let x : SegId = record { 0 = n } in x) (from (slice_get net.segments s.0) (slice_get net.segments r.0) refl refl)
+segment_is : (net : NetworkPlan) (s r : SegId) → IsNetwork net → s.0 < length net.segments → r.0 < length net.segments
+    → segment_name net s.0 ≡ segment_name net r.0 → s ≡ r
+segment_is net s r network s_in r_in e =
+    ap (λ (n : ℕ). let x : SegId = record { 0 = n } in x) (from (slice_get net.segments s.0) (slice_get net.segments r.0) refl refl)
   where
     from : (o p : Option Segment) → slice_get net.segments s.0 ≡ o → slice_get net.segments r.0 ≡ p → s.0 ≡ r.0
     from None p is is2 = absurd (none_within net.segments s.0 s_in is)
@@ -131,7 +134,8 @@ first_word net (Refuse t s b u) = refl
 first_word net (Bar t b u) = refl
 
 -- moves of one name and the same words are one move
-same_move : (net : NetworkPlan) (m n : Move) → IsNetwork net → IsMoveOf net m → IsMoveOf net n → name_of m ≡ name_of n → move_words net m ≡ move_words net n → m ≡ n
+same_move : (net : NetworkPlan) (m n : Move) → IsNetwork net → IsMoveOf net m → IsMoveOf net n → name_of m ≡ name_of n → move_words net m ≡ move_words net n
+    → m ≡ n
 unfolding name_of
 same_move net (Reserve t s b) (Reserve tx sx bx) network of of2 names e =
     let e0 = train_is net t tx network of.0 of2.0 (ap (λ ws. get_or ws 1 []) e) in
@@ -204,7 +208,8 @@ one_move_line net text m n network is is2 =
 small : (n : ℕ) → n ≤ 1000000 → n < 2 ^ 64
 small n h = omega arith
 
-one_outcome : (net : NetworkPlan) (t : ℕ) (o p : Outcome) → IsCount o.made → IsCount o.refused → IsCount p.made → IsCount p.refused → outcome_words net t o ≡ outcome_words net t p → o ≡ p
+one_outcome : (net : NetworkPlan) (t : ℕ) (o p : Outcome) → IsCount o.made → IsCount o.refused → IsCount p.made → IsCount p.refused
+    → outcome_words net t o ≡ outcome_words net t p → o ≡ p
 one_outcome net t o p made refused made2 refused2 e =
     let fates = fate_is o.fate p.fate (ap (λ ws. get_or ws 2 []) e) in
     let mades = decimal_is o.made p.made (small o.made made) (small p.made made2) (ap (λ ws. get_or ws 3 []) e) in
@@ -213,7 +218,8 @@ one_outcome net t o p made refused made2 refused2 e =
     ∙ ap (λ (n : ℕ). let x : Outcome = record { fate = p.fate; made = n; refused = o.refused } in x) mades
     ∙ ap (λ (n : ℕ). let x : Outcome = record { fate = p.fate; made = p.made; refused = n } in x) refusals
 
-pub one_outcome_line : (net : NetworkPlan) (text : List ℕ) (t u : ℕ) (o p : Outcome) → IsNetwork net → IsOutcomeLine net text t o → IsOutcomeLine net text u p → (t ≡ u) × (o ≡ p)
+pub one_outcome_line : (net : NetworkPlan) (text : List ℕ) (t u : ℕ) (o p : Outcome) → IsNetwork net → IsOutcomeLine net text t o → IsOutcomeLine net text u p
+    → (t ≡ u) × (o ≡ p)
 one_outcome_line net text t u o p network is is2 =
     let train = one_train net text t u o p network is is2 in
     let words : outcome_words net t o ≡ outcome_words net t p =
@@ -221,7 +227,8 @@ one_outcome_line net text t u o p network is is2 =
     (train, one_outcome net t o p is.made is.refused is2.made is2.refused words)
 
 -- lines that are the same have the same words
-same_words : (net : NetworkPlan) (m n : Move) → IsNetwork net → whole_line (move_words net m) ≡ whole_line (move_words net n) → move_words net m ≡ move_words net n
+same_words : (net : NetworkPlan) (m n : Move) → IsNetwork net → whole_line (move_words net m) ≡ whole_line (move_words net n)
+    → move_words net m ≡ move_words net n
 same_words net m n network e = sym (words_of_move net m network) ∙ ap (λ (l : Line). words_of l.text) e ∙ words_of_move net n network
 
 same_outcome_words : (net : NetworkPlan) (t : ℕ) (o p : Outcome) → IsNetwork net → IsCount o.made × IsCount o.refused → IsCount p.made × IsCount p.refused
@@ -244,7 +251,8 @@ moves_same net [] (n ∷ others) rest tail network of of2 none none2 e = absurd 
 moves_same net (m ∷ moves) [] rest tail network of of2 none none2 e = absurd (none2 m (of 0 m refl) (ap (λ ls. slice_get ls 0) (sym e)))
 moves_same net (m ∷ moves) (n ∷ others) rest tail network of of2 none none2 e =
     let first = one_move net m n network (of 0 m refl) (of2 0 n refl) (same_words net m n network (same_Some _ _ (ap (λ ls. slice_get ls 0) e))) in
-    let later = moves_same net moves others rest tail network (λ j x at. of (suc j) x at) (λ j x at. of2 (suc j) x at) none none2 (ap (λ (ls : List Line). drop 1 ls) e) in
+    let later = moves_same net moves others rest tail network (λ j x at. of (suc j) x at) (λ j x at. of2 (suc j) x at) none none2
+    (ap (λ (ls : List Line). drop 1 ls) e) in
     record { moves_are = ap (λ x. x ∷ moves) first ∙ ap (λ xs. n ∷ xs) later.moves_are; rest_is = later.rest_is }
 
 trains_same : (net : NetworkPlan) (t : ℕ) (outcomes others : List Outcome) (rest tail : List Line) → IsNetwork net
@@ -257,13 +265,16 @@ trains_same net t (o ∷ outcomes) [] rest tail network counts counts2 long e = 
 trains_same net t (o ∷ outcomes) (p ∷ others) rest tail network counts counts2 long e =
     let here = counts 0 o refl in
     let here2 = counts2 0 p refl in
-    let first = one_outcome net t o p here.0 here.1 here2.0 here2.1 (same_outcome_words net t o p network here here2 (same_Some _ _ (ap (λ ls. slice_get ls 0) e))) in
-    let later = trains_same net (suc t) outcomes others rest tail network (λ j x at. counts (suc j) x at) (λ j x at. counts2 (suc j) x at) (omega arith) (ap (λ (ls : List Line). drop 1 ls) e) in
+    let first = one_outcome net t o p here.0 here.1 here2.0 here2.1
+    (same_outcome_words net t o p network here here2 (same_Some _ _ (ap (λ ls. slice_get ls 0) e))) in
+    let later = trains_same net (suc t) outcomes others rest tail network (λ j x at. counts (suc j) x at) (λ j x at. counts2 (suc j) x at) (omega arith)
+    (ap (λ (ls : List Line). drop 1 ls) e) in
     ap (λ x. x ∷ outcomes) first ∙ ap (λ xs. p ∷ xs) later
 
 tries_same : (m n : ℕ) → m ≤ 1000 → n ≤ 1000 → tries_line m ≡ tries_line n → m ≡ n
 tries_same m n small_m small_n e =
-    decimal_is m n (omega arith) (omega arith) (ap (λ ws. get_or ws 1 []) (sym (tries_words m small_m) ∙ ap (λ (l : Line). words_of l.text) e ∙ tries_words n small_n))
+    decimal_is m n (omega arith) (omega arith)
+    (ap (λ ws. get_or ws 1 []) (sym (tries_words m small_m) ∙ ap (λ (l : Line). words_of l.text) e ∙ tries_words n small_n))
 
 -- a text is that of one report
 pub one_report : (net : NetworkPlan) (text : List ℕ) (r q : Report) → IsNetwork net → IsTextOf net r text → IsTextOf net q text → r ≡ q
@@ -273,11 +284,13 @@ one_report net text r q network is is2 =
     let count = is.of.trains in
     let count2 = is2.of.trains in
     let tries = tries_same r.tries q.tries is.of.few_tries is2.of.few_tries (same_Some _ _ (ap (λ ls. slice_get ls 1) lines)) in
-    let behind : move_lines net r.moves ++ (train_lines net 0 r.outcomes ++ end_line ∷ []) ≡ move_lines net q.moves ++ (train_lines net 0 q.outcomes ++ end_line ∷ []) =
+    let behind : move_lines net r.moves ++ (train_lines net 0 r.outcomes ++ end_line ∷ []) ≡ move_lines net q.moves
+    ++ (train_lines net 0 q.outcomes ++ end_line ∷ []) =
     sym (append_assoc (move_lines net r.moves) (train_lines net 0 r.outcomes) (end_line ∷ []))
     ∙ ap (λ (ls : List Line). drop 2 ls) lines
     ∙ append_assoc (move_lines net q.moves) (train_lines net 0 q.outcomes) (end_line ∷ []) in
-    let no_end = λ (m : Move) (of : IsMoveOf net m) (at : slice_get (end_line ∷ []) 0 ≡ Some (whole_line (move_words net m))). move_or_end net m network (sym (same_Some _ _ at)) in
+    let no_end = λ (m : Move) (of : IsMoveOf net m) (at : slice_get (end_line ∷ []) 0 ≡ Some (whole_line (move_words net m))). move_or_end net m network
+    (sym (same_Some _ _ at)) in
     let same = moves_same net r.moves q.moves _ _ network is.of.moves is2.of.moves
     (trains_no_move net 0 r.outcomes (end_line ∷ []) network is.of.outcomes (λ e. no_end))
     (trains_no_move net 0 q.outcomes (end_line ∷ []) network is2.of.outcomes (λ e. no_end)) behind in
@@ -294,11 +307,17 @@ begins_less : (net : NetworkPlan) (text : List ℕ) (j k : ℕ) → j ≤ k → 
 begins_less net text j k low begins = record { report = begins.report; of = begins.of; same = λ i h. begins.same i (omega arith) }
 
 pub one_fault : (net : NetworkPlan) (text : List ℕ) (n k : ℕ) → IsFirstFault net text n → IsFirstFault net text k → n ≡ k
-one_fault net text n k first other = elim (order n k) [ inl same ↦ same | inr (inl less) ↦ absurd (first.fault (begins_less net text n (k - 1) (omega arith) other.before)) | inr (inr more) ↦ absurd (other.fault (begins_less net text k (n - 1) (omega arith) first.before)) ]
+one_fault net text n k first other =
+    elim (order n k) [
+      | inl same ↦ same
+      | inr (inl less) ↦ absurd (first.fault (begins_less net text n (k - 1) (omega arith) other.before))
+      | inr (inr more) ↦ absurd (other.fault (begins_less net text k (n - 1) (omega arith) first.before))
+    ]
   where
     order : (a b : ℕ) → (a ≡ b) ⊎ ((a < b) ⊎ (b < a))
     order a b = grind arith
 
 pub move_apart : (net : NetworkPlan) (text : List ℕ) (m : Move) (t : ℕ) (o : Outcome) → IsNetwork net → IsMoveLine net text m → IsOutcomeLine net text t o → ⊥
 move_apart net text m t o network is is2 =
-    move_or_train net m t o network is2.made is2.refused (ap (λ (ws : List (List ℕ)). whole_line ws) (sym (words_from_move_line net text m network is) ∙ words_from_outcome_line net text t o network is2))
+    move_or_train net m t o network is2.made is2.refused
+    (ap (λ (ws : List (List ℕ)). whole_line ws) (sym (words_from_move_line net text m network is) ∙ words_from_outcome_line net text t o network is2))

@@ -69,5 +69,6 @@ same_train net t u network t_in u_in e = from (slice_get net.trains t) (slice_ge
 -- a train's line is no other's
 pub one_train : (net : NetworkPlan) (text : List ℕ) (t u : ℕ) (o p : Outcome) → IsNetwork net → IsOutcomeLine net text t o → IsOutcomeLine net text u p → t ≡ u
 one_train net text t u o p network is is2 =
-    let words : outcome_words net t o ≡ outcome_words net u p = sym (words_from_outcome_line net text t o network is) ∙ words_from_outcome_line net text u p network is2 in
+    let words : outcome_words net t o ≡ outcome_words net u p =
+    sym (words_from_outcome_line net text t o network is) ∙ words_from_outcome_line net text u p network is2 in
     same_train net t u network is.train is2.train (ap (λ ws. get_or ws 1 []) words)

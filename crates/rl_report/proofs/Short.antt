@@ -152,7 +152,8 @@ outcome_short net t o h counts =
     let refused = count_short o.refused counts.1 in
     omega (arith, name, fate, made, refused)
 
-trains_short : (net : NetworkPlan) (t : ℕ) (outcomes : List Outcome) → IsNetwork net → ((j : ℕ) (o : Outcome) → slice_get outcomes j ≡ Some o → IsCount o.made × IsCount o.refused)
+trains_short : (net : NetworkPlan) (t : ℕ) (outcomes : List Outcome) → IsNetwork net
+    → ((j : ℕ) (o : Outcome) → slice_get outcomes j ≡ Some o → IsCount o.made × IsCount o.refused)
     → length (outcome_lines net t outcomes) ≤ 49 * length outcomes
 trains_short net t [] h counts = omega arith
 trains_short net t (o ∷ outcomes) h counts =
@@ -162,7 +163,8 @@ trains_short net t (o ∷ outcomes) h counts =
     let both = length-append (outcome_line net t o) (outcome_lines net (suc t) outcomes) in
     omega (arith, first, line, rest, both)
 
-text_short : (net : NetworkPlan) (report : Report) → IsNetwork net → IsReportOf net report → length report.moves ≤ most_moves → length (report_text net report) ≤ longest_text
+text_short : (net : NetworkPlan) (report : Report) → IsNetwork net → IsReportOf net report → length report.moves ≤ most_moves
+    → length (report_text net report) ≤ longest_text
 text_short net report h of few =
     let tries = length-decimal-le 4 report.tries (omega arith) (omega (arith, of.few_tries)) (omega (arith, of.few_tries)) in
     let second = line_short (codes "tries" ∷ decimal report.tries ∷ []) in
@@ -172,8 +174,11 @@ text_short net report h of few =
     let network = h.few_trains in
     let one = length-append (codes "relis report 1\n") (line_of (codes "tries" ∷ decimal report.tries ∷ [])) in
     let two = length-append (codes "relis report 1\n" ++ line_of (codes "tries" ∷ decimal report.tries ∷ [])) (flat_map (move_line net) report.moves) in
-    let three = length-append (codes "relis report 1\n" ++ line_of (codes "tries" ∷ decimal report.tries ∷ []) ++ flat_map (move_line net) report.moves) (outcome_lines net 0 report.outcomes) in
-    let four = length-append (codes "relis report 1\n" ++ line_of (codes "tries" ∷ decimal report.tries ∷ []) ++ flat_map (move_line net) report.moves ++ outcome_lines net 0 report.outcomes) (codes "end\n") in
+    let three = length-append (codes "relis report 1\n" ++ line_of (codes "tries" ∷ decimal report.tries ∷ []) ++ flat_map (move_line net) report.moves)
+    (outcome_lines net 0 report.outcomes) in
+    let four = length-append
+    (codes "relis report 1\n" ++ line_of (codes "tries" ∷ decimal report.tries ∷ []) ++ flat_map (move_line net) report.moves
+    ++ outcome_lines net 0 report.outcomes) (codes "end\n") in
     omega (arith, tries, second, moves, trains, count, network, one, two, three, four, few)
 
 behind_moves : (net : NetworkPlan) (moves : List Move) (rest : List Line) → slice_get (move_lines net moves ++ rest) (length moves) ≡ slice_get rest 0
@@ -181,7 +186,8 @@ behind_moves net [] rest = refl
 behind_moves net (m ∷ moves) rest = behind_moves net moves rest
 
 -- the text of such a report isn't too long
-pub report_not_long : (net : NetworkPlan) (text : List ℕ) (report : Report) → IsNetwork net → IsTextOf net report text → length report.moves ≤ most_moves → IsLong net text → ⊥
+pub report_not_long : (net : NetworkPlan) (text : List ℕ) (report : Report) → IsNetwork net → IsTextOf net report text → length report.moves ≤ most_moves
+    → IsLong net text → ⊥
 report_not_long net text report h is few (inl large) =
     let short = text_short net report h is.of few in
     let same = ap length is.spelled in

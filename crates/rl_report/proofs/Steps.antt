@@ -42,7 +42,8 @@ next_line (l ∷ ls) text e = ap (λ (x : Line). x ∷ ls) (line_is l text e)
 move_is_next : (net : NetworkPlan) (left : List Line) (text : List ℕ) (m : Move) → next_text left ≡ Some text → IsMoveLine net text m
     → left ≡ whole_line (move_words net m) ∷ drop 1 left
 move_is_next net left text m e is =
-    next_line left text e ∙ ap (λ t. record { text = t; whole = true } ∷ drop 1 left) (append_cancel_right text (join_with_byte 32 (move_words net m)) (10 ∷ []) is.line)
+    next_line left text e ∙ ap (λ t. record { text = t; whole = true } ∷ drop 1 left)
+    (append_cancel_right text (join_with_byte 32 (move_words net m)) (10 ∷ []) is.line)
 
 -- a move more was read
 pub move_step : (net : NetworkPlan) (text line : List ℕ) (moves : List Move) (m : Move) (old new : Reading)
@@ -69,7 +70,8 @@ train_step net text line x t o old new next is left count at read =
     let there = is.train in
     let words : line ≡ join_with_byte 32 (outcome_words net t o) = append_cancel_right line (join_with_byte 32 (outcome_words net t o)) (10 ∷ []) is.line in
     let here : old.left ≡ train_lines net t (o ∷ []) ++ new.left =
-    next_line old.left line next ∙ ap (λ w. record { text = w; whole = true } ∷ drop 1 old.left) words ∙ ap (λ ls. whole_line (outcome_words net t o) ∷ ls) (sym left) in
+    next_line old.left line next ∙ ap (λ w. record { text = w; whole = true } ∷ drop 1 old.left) words
+    ∙ ap (λ ls. whole_line (outcome_words net t o) ∷ ls) (sym left) in
     record {
       some_tries = read.some_tries;
       few_tries = read.few_tries;
@@ -118,13 +120,15 @@ third [] i = grind (arith, common_steps)
 third (l ∷ []) i = grind (arith, common_steps)
 third (l ∷ l2 ∷ ls) i = let e : i + 2 ≡ suc (suc i) = omega arith in rw e refl
 
-move_at : (net : NetworkPlan) (moves : List Move) (rest : List Line) (i : ℕ) → i < length moves → (m : Move) × (slice_get moves i ≡ Some m) × (slice_get (move_lines net moves ++ rest) i ≡ Some (whole_line (move_words net m)))
+move_at : (net : NetworkPlan) (moves : List Move) (rest : List Line) (i : ℕ) → i < length moves
+    → (m : Move) × (slice_get moves i ≡ Some m) × (slice_get (move_lines net moves ++ rest) i ≡ Some (whole_line (move_words net m)))
 move_at net [] rest i h = absurd (omega arith)
 move_at net (m ∷ moves) rest zero h = (m, refl, refl)
 move_at net (m ∷ moves) rest (suc i) h = move_at net moves rest i (omega arith)
 
 -- too many moves were read
-pub long_from_moves : (net : NetworkPlan) (text : List ℕ) (moves : List Move) (reading : Reading) → HasMoves net text moves reading → most_moves < length moves → IsLong net text
+pub long_from_moves : (net : NetworkPlan) (text : List ℕ) (moves : List Move) (reading : Reading) → HasMoves net text moves reading → most_moves < length moves
+    → IsLong net text
 long_from_moves net text moves reading read many =
     inr (λ i h.
     let at = move_at net moves reading.left i (omega arith) in
@@ -166,7 +170,8 @@ pub after_pass : (given more old left : ℕ) → given + more ≡ old + left →
 after_pass given more old left count one = omega arith
 
 -- behind the first two lines no move was read yet
-pub no_moves_yet : (net : NetworkPlan) (text : List ℕ) (start reading : Reading) → start.given ≡ 0 → start.left ≡ lines_of text → reading.left ≡ drop 2 start.left
+pub no_moves_yet : (net : NetworkPlan) (text : List ℕ) (start reading : Reading) → start.given ≡ 0 → start.left ≡ lines_of text
+    → reading.left ≡ drop 2 start.left
     → reading.given + length reading.left ≡ start.given + length start.left → HasMoves net text [] reading
 no_moves_yet net text start reading given left behind count =
     let all = ap (λ (ls : List Line). length ls) left in

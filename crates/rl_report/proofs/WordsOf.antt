@@ -12,7 +12,8 @@ abbrev is_space : ℕ → Bool
 is_space b = b == 32
 
 -- the first space, told by what is before it and at it
-pub first_space : (text : List ℕ) (i : ℕ) → i ≤ length text → ((k : ℕ) → k < i → get_or text k 0 ≡ 32 → ⊥) → (i < length text → get_or text i 0 ≡ 32) → i ≡ position_or_len is_space text
+pub first_space : (text : List ℕ) (i : ℕ) → i ≤ length text → ((k : ℕ) → k < i → get_or text k 0 ≡ 32 → ⊥) → (i < length text → get_or text i 0 ≡ 32)
+    → i ≡ position_or_len is_space text
 first_space text i within none here =
     sym (position_or_len_is is_space text i 0 within (λ k l. other (get_or text k 0) (none k l)) (λ l. space (get_or text i 0) (here l)))
   where
@@ -22,7 +23,8 @@ first_space text i within none here =
     space : (b : ℕ) → b ≡ 32 → (b == 32) ≡ true
     space b h = grind (arith, nat_tests)
 
-pub words_of-first : (text : List ℕ) (end : ℕ) → end ≡ position_or_len is_space text → end < length text → words_of text ≡ take end text ∷ words_of (drop (end + 1) text)
+pub words_of-first : (text : List ℕ) (end : ℕ) → end ≡ position_or_len is_space text → end < length text
+    → words_of text ≡ take end text ∷ words_of (drop (end + 1) text)
 words_of-first text end e h = rw e (slice_split_first is_space text 0 (rw (← e) h))
 
 pub words_of-last : (text : List ℕ) (end : ℕ) → end ≡ position_or_len is_space text → length text ≤ end → words_of text ≡ text ∷ []

@@ -145,7 +145,8 @@ fn after_name(line: &[u8], name: MoveName) -> Option<&[u8]>
 /// The name that is the first word of the line, and the words after it.
 fn first_name(line: &[u8]) -> Option<(MoveName, Words<'_>)>
     ensures some { IfSome result (λ first. words_of line.now ≡ name_word first.0 ∷ first.1) }
-    ensures none { IfNone result ((name : MoveName) (rest : List (List ℕ)) → words_of line.now ≢ name_word name ∷ rest) }
+    ensures none { IfNone result ((name : MoveName) (rest : List (List ℕ))
+        → words_of line.now ≢ name_word name ∷ rest) }
 {
     let likely = likely_name(line);
     if let Some(rest) = after_name(line, likely) {

@@ -45,8 +45,10 @@ alone_value laws tables tries [] n w v runs alone word = start_value tables trie
 alone_value laws tables tries (f ∷ log) n w v runs alone word =
     elim (cases_eq w f.word.0) [
       | inl here ↦
-          let owned : Owns (layout_of tables) f.word.0 (payload_in f.was) f.node.0 = event_owned laws tables tries f log runs.line runs.few (omega (arith, runs.room)) runs.run in
-          let own : f.node.0 ≡ n = alone (payload_in f.was) f.node.0 (subst (λ (k : ℕ). Owns (layout_of tables) k (payload_in f.was) f.node.0) (sym here) owned) in
+          let owned : Owns (layout_of tables) f.word.0 (payload_in f.was) f.node.0 =
+          event_owned laws tables tries f log runs.line runs.few (omega (arith, runs.room)) runs.run in
+          let own : f.node.0 ≡ n =
+          alone (payload_in f.was) f.node.0 (subst (λ (k : ℕ). Owns (layout_of tables) k (payload_in f.was) f.node.0) (sym here) owned) in
           word_after tables tries f log w v runs here word ∙ sym (written_last tables f log n w own (sym here))
       | inr away ↦
           alone_value laws tables tries log n w v (earlier tables tries f log runs) alone (word_before tables tries f log w v away word)

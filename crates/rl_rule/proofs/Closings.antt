@@ -68,10 +68,12 @@ pub last_log : (tables : Tables) (tries id : ℕ) (view : View) (words : List �
 last_log tables tries id view words slots role all final =
     let s : State (Unit {0}) View = final.0 in
     let ruled : IsRuled tables tries final.0 = final.1.0 in
-    let knows : KnowsRoot tables tries ruled.log ruled.places id view = as_role tables tries ruled.log ruled.places id view Root role (ruled.each id view final.1.1) in
+    let knows : KnowsRoot tables tries ruled.log ruled.places id view =
+    as_role tables tries ruled.log ruled.places id view Root role (ruled.each id view final.1.1) in
     let none : (n : ℕ) → ruled.places.handed ≤ n → times n view.taken ≡ 0 = λ n past. knows.taken n ∙ none_past ruled.places n past in
     let few : (n : ℕ) → times n view.taken ≤ 1 = λ n. subst (λ (k : ℕ). k ≤ 1) (sym (knows.taken n)) (at_most_once ruled.places n) in
-    let sum : sum_below ruled.places.handed (λ n. times n view.taken) ≡ length view.taken = in_buckets (λ (kept : Kept). kept.node.0) ruled.places.handed view.taken none in
+    let sum : sum_below ruled.places.handed (λ n. times n view.taken) ≡ length view.taken =
+    in_buckets (λ (kept : Kept). kept.node.0) ruled.places.handed view.taken none in
     let full : sum_below ruled.places.handed (λ n. times n view.taken) ≡ ruled.places.handed = sum ∙ (all ∙ knows.handed) in (
       ruled.log,
       record {
@@ -82,7 +84,8 @@ last_log tables tries id view words slots role all final =
           run = ruled.run;
           histories = λ n.
               elim (cases_lt n ruled.places.handed) [
-                | inl within ↦ sym (kept_is tables tries ruled.log n view.taken knows.kept (each_one ruled.places.handed (λ m. times m view.taken) few full n within))
+                | inl within ↦ sym (kept_is tables tries ruled.log n view.taken knows.kept
+                    (each_one ruled.places.handed (λ m. times m view.taken) few full n within))
                 | inr past ↦ ruled.unborn n past ∙ sym (kept_none n view.taken (none n past))
               ];
           words_are = sym final.2 ∙ ruled.words;

@@ -27,6 +27,7 @@ no_items xs e = ap length e
 pub few_events : (k : ℕ) (log : List Event) → k ≤ 320 → ((n : ℕ) → k ≤ n → history n log ≡ []) → ((n : ℕ) → length (history n log) ≤ most_of_node) →
     length log ≤ most_events
 few_events k log few none short =
-    let all : sum_below k (λ n. length (history n log)) ≡ length log = in_buckets (λ (e : Event). e.node.0) k log (λ n past. no_items (history n log) (none n past)) in
+    let all : sum_below k (λ n. length (history n log)) ≡ length log =
+    in_buckets (λ (e : Event). e.node.0) k log (λ n past. no_items (history n log) (none n past)) in
     let most : sum_below k (λ n. length (history n log)) ≤ k * 1048576 = sum_most k 1048576 (λ n. length (history n log)) short in
     omega arith

@@ -15,10 +15,13 @@ use Rattle.rl_runs.specs.Sound.{IsMindOf, IsSound}
 use Rattle.rl_runs.specs.Step.{node_step}
 
 abbrev pub RunsAreSound : Type 0
-RunsAreSound = (tables : Tables) (tries : ℕ) (events : List Event) → IsLine tables → tries ≤ 1000 → length events < 2 ^ 32 → IsRun tables tries events → IsSound tables (length events) (state tables tries events)
+RunsAreSound = (tables : Tables) (tries : ℕ) (events : List Event) → IsLine tables → tries ≤ 1000 → length events < 2 ^ 32 → IsRun tables tries events
+    → IsSound tables (length events) (state tables tries events)
 
 abbrev pub StepsAreOwners : Type 0
-StepsAreOwners = (tables : Tables) (n w payload new : ℕ) (mind after : Mind) → IsLine tables → ((node : NodeKind) → node_at (layout_of tables) n ≡ Some node → IsMindOf tables node mind) → node_step tables n mind w payload ≡ Some (new, after) → Owns (layout_of tables) w payload n × (new < 2 ^ 32)
+StepsAreOwners = (tables : Tables) (n w payload new : ℕ) (mind after : Mind) → IsLine tables
+    → ((node : NodeKind) → node_at (layout_of tables) n ≡ Some node → IsMindOf tables node mind) → node_step tables n mind w payload ≡ Some (new, after)
+    → Owns (layout_of tables) w payload n × (new < 2 ^ 32)
 
 abbrev pub OwnersAreOne : Type 0
 OwnersAreOne = (lay : Layout) (w payload m n : ℕ) → Owns lay w payload m → Owns lay w payload n → m ≡ n
@@ -30,4 +33,5 @@ pub record Laws : Type 0 where
 
 -- the merge of the histories of a run is a run to the same state
 abbrev pub MergesAreRuns : Type 0
-MergesAreRuns = (tables : Tables) (tries : ℕ) (log merged : List Event) → IsLine tables → tries ≤ 1000 → length log < 2 ^ 32 → IsRun tables tries log → IsMerge (λ n. history n log) merged → IsRun tables tries merged × (state tables tries merged ≡ state tables tries log)
+MergesAreRuns = (tables : Tables) (tries : ℕ) (log merged : List Event) → IsLine tables → tries ≤ 1000 → length log < 2 ^ 32 → IsRun tables tries log
+    → IsMerge (λ n. history n log) merged → IsRun tables tries merged × (state tables tries merged ≡ state tables tries log)

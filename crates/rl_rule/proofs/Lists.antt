@@ -104,7 +104,8 @@ module _ {A : Type 0} (g : A → ℕ) where
       let less : (n : ℕ) → k ≤ n → length (bucket n xs) ≡ 0 = λ n past. fewer n x xs (none n past) in
       let before : sum_below k (λ n. length (bucket n xs)) ≡ length xs = in_buckets k xs less in
       elim (cases_lt (g x) k) [
-        | inl within ↦ sum_same k (λ n. length (bucket n (x ∷ xs))) (one_more (λ n. length (bucket n xs)) (g x)) (λ n. bucket_length n x xs) ∙ (sum_more k (g x) (λ n. length (bucket n xs)) within ∙ ap suc before)
+        | inl within ↦ sum_same k (λ n. length (bucket n (x ∷ xs))) (one_more (λ n. length (bucket n xs)) (g x)) (λ n. bucket_length n x xs)
+            ∙ (sum_more k (g x) (λ n. length (bucket n xs)) within ∙ ap suc before)
         | inr past ↦
             let here : length (bucket (g x) (x ∷ xs)) ≡ suc (length (bucket (g x) xs)) = bucket_length (g x) x xs ∙ (rw (eq-eqb (g x) (g x) refl) refl) in
             absurd (omega (arith, none (g x) past))

@@ -46,7 +46,9 @@ loaded_walk tables tries log walk w value within word is =
     some_same : (a b : Load) → Some a ≡ Some b → a ≡ b
     some_same a b e = cc
 
-node_after : (tables : Tables) (tries : ℕ) (log : List Event) (places : Places) (id : ℕ) (view : View) (w value : ℕ) → w < word_count (layout_of tables) → slice_get (state tables tries log).words w ≡ Some value → KnowsNode tables tries log places id view → KnowsNode tables tries log places id (record view { walk = loaded view.walk w value })
+node_after : (tables : Tables) (tries : ℕ) (log : List Event) (places : Places) (id : ℕ) (view : View) (w value : ℕ) → w < word_count (layout_of tables)
+    → slice_get (state tables tries log).words w ≡ Some value → KnowsNode tables tries log places id view
+    → KnowsNode tables tries log places id (record view { walk = loaded view.walk w value })
 node_after tables tries log places id view w value within word knows =
     record {
       later = knows.later;
@@ -61,11 +63,14 @@ tells : Laws → (tables : Tables) (tries : ℕ) (s : State (Unit {0}) View) (ru
     slice_get (state tables tries ruled.log).words w ≡ Some value → IsWalk tables tries ruled.log walk → Tells walk.history w value
 tells laws tables tries s ruled walk w value word is =
     let few : length ruled.log ≤ most_events = few_in_log tables ruled.log ruled.places.handed ruled.line ruled.few ruled.unborn ruled.short in
-    let sound : IsSound tables (length ruled.log) (state tables tries ruled.log) = laws.runs tables tries ruled.log ruled.line ruled.few_tries (omega arith) ruled.run in
+    let sound : IsSound tables (length ruled.log) (state tables tries ruled.log) =
+    laws.runs tables tries ruled.log ruled.line ruled.few_tries (omega arith) ruled.run in
     let bound : stamp_in value ≤ length ruled.log = (sound.words w value word).1 in
     record {
-      later = λ e last. (told laws tables tries ruled.log walk.node.0 w value e ruled.line ruled.few_tries (omega arith) ruled.run word (rw is.history at last)).later;
-      same = λ e last. (told laws tables tries ruled.log walk.node.0 w value e ruled.line ruled.few_tries (omega arith) ruled.run word (rw is.history at last)).same;
+      later = λ e last. (told laws tables tries ruled.log walk.node.0 w value e ruled.line ruled.few_tries (omega arith) ruled.run word
+          (rw is.history at last)).later;
+      same = λ e last. (told laws tables tries ruled.log walk.node.0 w value e ruled.line ruled.few_tries (omega arith) ruled.run word
+          (rw is.history at last)).same;
       room = omega arith;
     }
 
@@ -83,11 +88,15 @@ pub load_keeps : Laws → (tables : Tables) (tries slots id w : ℕ) (me : Sat) 
 load_keeps laws tables tries slots id w me role within s ruled homes there small =
     let value : ℕ = slice_index s.words w in
     let new : View = record me.0 { walk = loaded me.0.walk w (slice_index s.words w) } in
-    let sound : IsSound tables (length ruled.log) (state tables tries ruled.log) = laws.runs tables tries ruled.log ruled.line ruled.few_tries (omega (arith, few_in_log tables ruled.log ruled.places.handed ruled.line ruled.few ruled.unborn ruled.short)) ruled.run in
+    let sound : IsSound tables (length ruled.log) (state tables tries ruled.log) =
+    laws.runs tables tries ruled.log ruled.line ruled.few_tries
+    (omega (arith, few_in_log tables ruled.log ruled.places.handed ruled.line ruled.few ruled.unborn ruled.short)) ruled.run in
     let wide : length s.words ≡ word_count (layout_of tables) = ap length ruled.words ∙ sound.size in
     let word : slice_get (state tables tries ruled.log).words w ≡ Some (slice_index s.words w) = rw (← ruled.words) (get_index s.words w (omega arith)) in
-    let knows : KnowsNode tables tries ruled.log ruled.places id me.0 = as_role tables tries ruled.log ruled.places id me.0 Node role (ruled.each id me.0 there) in
-    let after : KnowsNode tables tries ruled.log ruled.places id new = node_after tables tries ruled.log ruled.places id me.0 w (slice_index s.words w) within word knows in (
+    let knows : KnowsNode tables tries ruled.log ruled.places id me.0 =
+    as_role tables tries ruled.log ruled.places id me.0 Node role (ruled.each id me.0 there) in
+    let after : KnowsNode tables tries ruled.log ruled.places id new =
+    node_after tables tries ruled.log ruled.places id me.0 w (slice_index s.words w) within word knows in (
       new,
       keeps,
       tt,
@@ -105,9 +114,15 @@ load_keeps laws tables tries slots id w me role within s ruled homes there small
         nodes = λ n handed live. node_kept s.views id (ruled.places.place n) n me.0 new there role refl (ruled.nodes n handed live);
         each = λ seat view at.
             ⊎_elim
-            (λ (t : (seat ≡ id) × (new ≡ view)). as_view tables tries ruled.log ruled.places id seat view new t.0 t.1 (from_role tables tries ruled.log ruled.places id new Node role after))
+            (λ (t : (seat ≡ id) × (new ≡ view)). as_view tables tries ruled.log ruled.places id seat view new t.0 t.1
+            (from_role tables tries ruled.log ruled.places id new Node role after))
             (λ (t : (seat ≢ id) × (get_elem? s.views seat ≡ some view)). ruled.each seat view t.1)
             (at_set s.views id seat new view at);
       },
-      (refl, tells laws tables tries s ruled me.0.walk w (slice_index s.words w) word knows.walk, λ alone. own_value laws tables tries s ruled id me.0 w (slice_index s.words w) word knows alone),
+      (
+        refl,
+        tells laws tables tries s ruled me.0.walk w (slice_index s.words w) word knows.walk,
+        λ alone. own_value laws tables tries s ruled id me.0 w
+            (slice_index s.words w) word knows alone,
+      ),
     )

@@ -32,7 +32,8 @@ own_step tables tries log n e own made left =
       now = made.now;
     }
 
-own_mind : (tables : Tables) (tries : ℕ) (n : ℕ) (earlier : List Event) (e : Event) (step : IsStepOf tables n (mind_after tables tries n earlier) (clock_after earlier) e) →
+own_mind : (tables : Tables) (tries : ℕ) (n : ℕ) (earlier : List Event) (e : Event)
+    (step : IsStepOf tables n (mind_after tables tries n earlier) (clock_after earlier) e) →
     mind_after tables tries n (e ∷ earlier) ≡ step.made.1
 own_mind tables tries n earlier e step = rw step.step refl
 
@@ -51,17 +52,22 @@ own_left tables tries log n e own fits left =
     }
   where
     mind_put : (state tables tries (e ∷ log)).minds n ≡ states.mind_after tables (state tables tries log) e
-    mind_put = subst (λ (k : ℕ). states.put (state tables tries log).minds e.node.0 (states.mind_after tables (state tables tries log) e) k ≡ states.mind_after tables (state tables tries log) e) own (put_same (state tables tries log).minds e.node.0 (states.mind_after tables (state tables tries log) e))
+    mind_put = subst (λ (k : ℕ). states.put (state tables tries log).minds e.node.0 (states.mind_after tables (state tables tries log) e) k
+        ≡ states.mind_after tables (state tables tries log) e) own
+        (put_same (state tables tries log).minds e.node.0 (states.mind_after tables (state tables tries log) e))
 
     clock_put : (state tables tries (e ∷ log)).clocks n ≡ e.stamp
-    clock_put = subst (λ (k : ℕ). states.put (state tables tries log).clocks e.node.0 e.stamp k ≡ e.stamp) own (put_same (state tables tries log).clocks e.node.0 e.stamp)
+    clock_put = subst (λ (k : ℕ). states.put (state tables tries log).clocks e.node.0 e.stamp k ≡ e.stamp) own
+        (put_same (state tables tries log).clocks e.node.0 e.stamp)
 
 other_left : (tables : Tables) (tries : ℕ) (log : List Event) (n : ℕ) (e : Event) → (e.node.0 ≡ n → ⊥) → IsLeft tables tries log n →
     IsLeft tables tries (e ∷ log) n
 other_left tables tries log n e other left =
     let is : history n (e ∷ log) ≡ history n log = history_other n e log other in
     record {
-      mind = ap (mind_after tables tries n) is ∙ (left.mind ∙ sym (put_other (state tables tries log).minds e.node.0 (states.mind_after tables (state tables tries log) e) n (λ same. other (sym same))));
+      mind = ap (mind_after tables tries n) is
+          ∙ (left.mind ∙ sym (put_other (state tables tries log).minds e.node.0 (states.mind_after tables (state tables tries log) e) n
+          (λ same. other (sym same))));
       clock = ap clock_after is ∙ (left.clock ∙ sym (put_other (state tables tries log).clocks e.node.0 e.stamp n (λ same. other (sym same))));
       in_order = subst (IsHistory n) (sym is) left.in_order;
       chain = subst (IsNodeChain tables tries n) (sym is) left.chain;

@@ -100,10 +100,13 @@ other_walk owners tables tries log e walk word owned other is =
           still = λ mine.
               elim (cases_eq load.word.0 e.word.0) [
                 | inl here ↦
-                    let there : slice_get (state tables tries log).words e.word.0 ≡ Some load.value = subst (λ (w : ℕ). slice_get (state tables tries log).words w ≡ Some load.value) here (was.still mine) in
+                    let there : slice_get (state tables tries log).words e.word.0 ≡ Some load.value =
+                    subst (λ (w : ℕ). slice_get (state tables tries log).words w ≡ Some load.value) here (was.still mine) in
                     let value : load.value ≡ e.was = same_some (slice_get (state tables tries log).words e.word.0) load.value e.was there word in
-                    let at : Owns (layout_of tables) e.word.0 (payload_in load.value) walk.node.0 = subst (λ (w : ℕ). Owns (layout_of tables) w (payload_in load.value) walk.node.0) here mine in
-                    let theirs : Owns (layout_of tables) e.word.0 (payload_in e.was) walk.node.0 = subst (λ (v : ℕ). Owns (layout_of tables) e.word.0 (payload_in v) walk.node.0) value at in
+                    let at : Owns (layout_of tables) e.word.0 (payload_in load.value) walk.node.0 =
+                    subst (λ (w : ℕ). Owns (layout_of tables) w (payload_in load.value) walk.node.0) here mine in
+                    let theirs : Owns (layout_of tables) e.word.0 (payload_in e.was) walk.node.0 =
+                    subst (λ (v : ℕ). Owns (layout_of tables) e.word.0 (payload_in v) walk.node.0) value at in
                     absurd (other (owners (layout_of tables) e.word.0 (payload_in e.was) walk.node.0 e.node.0 theirs owned))
                 | inr away ↦ get_set_other (state tables tries log).words e.word.0 load.word.0 e.now away ∙ was.still mine
               ];

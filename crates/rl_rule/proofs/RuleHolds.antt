@@ -87,7 +87,8 @@ module _ (tables : Tables) (tries : ℕ) (s : State (Unit {0}) View) (ruled : Is
 
   chains : Laws → KeepsChains tables tries (λ n. history n ruled.log) s.words s.views
   chains laws =
-      let sound : IsSound tables (length ruled.log) (state tables tries ruled.log) = laws.runs tables tries ruled.log ruled.line ruled.few_tries room ruled.run in
+      let sound : IsSound tables (length ruled.log) (state tables tries ruled.log) =
+      laws.runs tables tries ruled.log ruled.line ruled.few_tries room ruled.run in
       record {
         nodes = λ n. (leaves tables tries ruled.log n ruled.run).chain;
         minds = λ seat view there role.
@@ -115,7 +116,8 @@ module _ (tables : Tables) (tries : ℕ) (s : State (Unit {0}) View) (ruled : Is
         handed_few = ruled.few;
         short = ruled.short;
         stamps = λ n e among.
-            let all : sum_below ruled.places.handed (λ m. length (history m ruled.log)) ≡ length ruled.log = in_buckets (λ (f : Event). f.node.0) ruled.places.handed ruled.log (λ m past. ap length (ruled.unborn m past)) in
+            let all : sum_below ruled.places.handed (λ m. length (history m ruled.log)) ≡ length ruled.log =
+            in_buckets (λ (f : Event). f.node.0) ruled.places.handed ruled.log (λ m past. ap length (ruled.unborn m past)) in
             let low : e.stamp ≤ length ruled.log = stamps_few laws tables tries ruled.log e runs (among_log n e ruled.log among) in
             omega arith;
       }

@@ -136,13 +136,16 @@ older_knows tables tries log places seat next view Spent later knows = tt
 pub split_keeps : (tables : Tables) (tries id : ℕ) (view : View) → view.role ≡ Root → view.handed < node_count (layout_of tables) →
     Splits (IsRuled tables tries) id view (grown view) (begun view)
 split_keeps tables tries id view role room s ruled there =
-    let knows : KnowsRoot tables tries ruled.log ruled.places id view = as_role tables tries ruled.log ruled.places id view Root role (ruled.each id view there) in
+    let knows : KnowsRoot tables tries ruled.log ruled.places id view =
+    as_role tables tries ruled.log ruled.places id view Root role (ruled.each id view there) in
     let next : ℕ = length s.views in
     let within : id < length s.views = at_within s.views id view there in
     let live : length s.views ≢ 0 = λ e. omega arith in
     let size : length (slice_set s.views id (grown view)) ≡ length s.views = length-set s.views id (grown view) in
-    let root_after : Knows tables tries ruled.log (more_places ruled.places (length s.views)) id (grown view) Root = grown_knows tables tries ruled.log ruled.places id view (length s.views) live knows in
-    let node_after : Knows tables tries ruled.log (more_places ruled.places (length s.views)) (length s.views) (begun view) Node = begun_knows tables tries ruled.log ruled.places id view (length s.views) live ruled.unborn knows in
+    let root_after : Knows tables tries ruled.log (more_places ruled.places (length s.views)) id (grown view) Root =
+    grown_knows tables tries ruled.log ruled.places id view (length s.views) live knows in
+    let node_after : Knows tables tries ruled.log (more_places ruled.places (length s.views)) (length s.views) (begun view) Node =
+    begun_knows tables tries ruled.log ruled.places id view (length s.views) live ruled.unborn knows in
     record {
       line = ruled.line;
       few_tries = ruled.few_tries;
@@ -155,25 +158,32 @@ split_keeps tables tries id view role room s ruled there =
       short = ruled.short;
       root = record {
         view = grown view;
-        there = at_longer (slice_set s.views id (grown view)) (begun view ∷ []) 0 (grown view) (subst (λ (k : ℕ). get_elem? (slice_set s.views k (grown view)) 0 ≡ some (grown view)) (sym knows.first) (set_here s.views 0 (grown view) (omega (arith, knows.first))));
+        there = at_longer (slice_set s.views id (grown view)) (begun view ∷ []) 0 (grown view)
+            (subst (λ (k : ℕ). get_elem? (slice_set s.views k (grown view)) 0 ≡ some (grown view)) (sym knows.first)
+            (set_here s.views 0 (grown view) (omega (arith, knows.first))));
         role = role;
       };
       nodes = λ n handed standing.
           elim (cases_eq n ruled.places.handed) [
             | inl same ↦
-                let at : put ruled.places.place ruled.places.handed (length s.views) n ≡ length s.views = rw same (put_same ruled.places.place ruled.places.handed (length s.views)) in
+                let at : put ruled.places.place ruled.places.handed (length s.views) n ≡ length s.views =
+                rw same (put_same ruled.places.place ruled.places.handed (length s.views)) in
                 record {
                   view = begun view;
-                  there = subst (λ (k : ℕ). get_elem? (slice_set s.views id (grown view) ++ begun view ∷ []) k ≡ some (begun view)) (sym at) (at_last (slice_set s.views id (grown view)) (begun view) (length s.views) size);
+                  there = subst (λ (k : ℕ). get_elem? (slice_set s.views id (grown view) ++ begun view ∷ []) k ≡ some (begun view)) (sym at)
+                      (at_last (slice_set s.views id (grown view)) (begun view) (length s.views) size);
                   role = refl;
                   node = knows.handed ∙ sym same;
                 }
             | inr other ↦
-                let at : put ruled.places.place ruled.places.handed (length s.views) n ≡ ruled.places.place n = put_other ruled.places.place ruled.places.handed (length s.views) n other in
+                let at : put ruled.places.place ruled.places.handed (length s.views) n ≡ ruled.places.place n =
+                put_other ruled.places.place ruled.places.handed (length s.views) n other in
                 let was : IsNodeAt s.views (ruled.places.place n) n = ruled.nodes n (omega arith) (λ zero. standing (at ∙ zero)) in
                 record {
                   view = was.view;
-                  there = subst (λ (k : ℕ). get_elem? (slice_set s.views id (grown view) ++ begun view ∷ []) k ≡ some was.view) (sym at) (at_longer (slice_set s.views id (grown view)) (begun view ∷ []) (ruled.places.place n) was.view (set_else s.views id (ruled.places.place n) (grown view) (λ e. standing (at ∙ (e ∙ knows.first))) ∙ was.there));
+                  there = subst (λ (k : ℕ). get_elem? (slice_set s.views id (grown view) ++ begun view ∷ []) k ≡ some was.view) (sym at)
+                      (at_longer (slice_set s.views id (grown view)) (begun view ∷ []) (ruled.places.place n) was.view
+                      (set_else s.views id (ruled.places.place n) (grown view) (λ e. standing (at ∙ (e ∙ knows.first))) ∙ was.there));
                   role = was.role;
                   node = was.node;
                 }
@@ -182,10 +192,13 @@ split_keeps tables tries id view role room s ruled there =
           ⊎_elim
           (λ (here : get_elem? (slice_set s.views id (grown view)) seat ≡ some other).
           ⊎_elim
-          (λ (t : (seat ≡ id) × (grown view ≡ other)). as_view tables tries ruled.log (more_places ruled.places (length s.views)) id seat other (grown view) t.0 t.1 (from_role tables tries ruled.log (more_places ruled.places (length s.views)) id (grown view) Root role root_after))
-          (λ (t : (seat ≢ id) × (get_elem? s.views seat ≡ some other)). older_knows tables tries ruled.log ruled.places seat (length s.views) other other.role (λ zero. t.0 (zero ∙ sym knows.first)) (ruled.each seat other t.1))
+          (λ (t : (seat ≡ id) × (grown view ≡ other)). as_view tables tries ruled.log (more_places ruled.places (length s.views)) id seat other
+          (grown view) t.0 t.1 (from_role tables tries ruled.log (more_places ruled.places (length s.views)) id (grown view) Root role root_after))
+          (λ (t : (seat ≢ id) × (get_elem? s.views seat ≡ some other)). older_knows tables tries ruled.log ruled.places seat (length s.views) other other.role
+          (λ zero. t.0 (zero ∙ sym knows.first)) (ruled.each seat other t.1))
           (at_set s.views id seat (grown view) other here))
-          (λ (t : (seat ≡ length (slice_set s.views id (grown view))) × (begun view ≡ other)). as_view tables tries ruled.log (more_places ruled.places (length s.views)) (length s.views) seat other (begun view) (t.0 ∙ size) t.1 node_after)
+          (λ (t : (seat ≡ length (slice_set s.views id (grown view))) × (begun view ≡ other)). as_view tables tries ruled.log
+          (more_places ruled.places (length s.views)) (length s.views) seat other (begun view) (t.0 ∙ size) t.1 node_after)
           (at_end (slice_set s.views id (grown view)) (begun view) other seat at);
     }
 
@@ -215,7 +228,8 @@ times_less places n m count handed live is =
 times_cons : (m : ℕ) (kept : Kept) (taken : List Kept) → times m (kept ∷ taken) ≡ (if kept.node.0 == m then suc (times m taken) else times m taken)
 times_cons m kept taken = by (kept.node.0 == m)
   where
-    by : (b : Bool) → length {A = Kept} (if b then kept ∷ filter (λ k. k.node.0 == m) taken else filter (λ k. k.node.0 == m) taken) ≡ (if b then suc (times m taken) else times m taken)
+    by : (b : Bool) → length {A = Kept} (if b then kept ∷ filter (λ k. k.node.0 == m) taken else filter (λ k. k.node.0 == m) taken)
+        ≡ (if b then suc (times m taken) else times m taken)
     by true = refl
     by false = refl
 
@@ -255,9 +269,12 @@ join_keeps tables tries id view other node role plays s ruled there apart them =
     let both : View = taking view node in
     let n : ℕ = node.walk.node.0 in
     let theirs : get_elem? s.views other ≡ some node = sym (set_else s.views id other (taking view node) apart) ∙ them in
-    let root : KnowsRoot tables tries ruled.log ruled.places id view = as_role tables tries ruled.log ruled.places id view Root role (ruled.each id view there) in
-    let knows : KnowsNode tables tries ruled.log ruled.places other node = as_role tables tries ruled.log ruled.places other node Node plays (ruled.each other node theirs) in
-    let root_after : Knows tables tries ruled.log (less_places ruled.places node.walk.node.0) id (taking view node) Root = taking_knows tables tries ruled.log ruled.places id other view node root knows in
+    let root : KnowsRoot tables tries ruled.log ruled.places id view =
+    as_role tables tries ruled.log ruled.places id view Root role (ruled.each id view there) in
+    let knows : KnowsNode tables tries ruled.log ruled.places other node =
+    as_role tables tries ruled.log ruled.places other node Node plays (ruled.each other node theirs) in
+    let root_after : Knows tables tries ruled.log (less_places ruled.places node.walk.node.0) id (taking view node) Root =
+    taking_knows tables tries ruled.log ruled.places id other view node root knows in
     record {
       line = ruled.line;
       few_tries = ruled.few_tries;
@@ -271,7 +288,8 @@ join_keeps tables tries id view other node role plays s ruled there apart them =
       root = record {
         view = taking view node;
         there = subst (λ (k : ℕ). get_elem? (slice_set (slice_set s.views id (taking view node)) other spent) k ≡ some (taking view node)) root.first
-            (set_else (slice_set s.views id (taking view node)) other id spent (λ e. apart (sym e)) ∙ set_here s.views id (taking view node) (at_within s.views id view there));
+            (set_else (slice_set s.views id (taking view node)) other id spent (λ e. apart (sym e))
+            ∙ set_here s.views id (taking view node) (at_within s.views id view there));
         role = role;
       };
       nodes = λ m handed standing.
@@ -284,7 +302,9 @@ join_keeps tables tries id view other node role plays s ruled there apart them =
           let not_root : ruled.places.place m ≢ id = λ e. standing (at ∙ (e ∙ root.first)) in
           record {
             view = was.view;
-            there = subst (λ (k : ℕ). get_elem? (slice_set (slice_set s.views id (taking view node)) other spent) k ≡ some was.view) (sym at) (set_else (slice_set s.views id (taking view node)) other (ruled.places.place m) spent not_other ∙ (set_else s.views id (ruled.places.place m) (taking view node) not_root ∙ was.there));
+            there = subst (λ (k : ℕ). get_elem? (slice_set (slice_set s.views id (taking view node)) other spent) k ≡ some was.view) (sym at)
+                (set_else (slice_set s.views id (taking view node)) other (ruled.places.place m) spent not_other
+                ∙ (set_else s.views id (ruled.places.place m) (taking view node) not_root ∙ was.there));
             role = was.role;
             node = was.node;
           };
@@ -293,8 +313,11 @@ join_keeps tables tries id view other node role plays s ruled there apart them =
           (λ (t : (seat ≡ other) × (spent ≡ that)). as_view tables tries ruled.log (less_places ruled.places node.walk.node.0) other seat that spent t.0 t.1 tt)
           (λ (t : (seat ≢ other) × (get_elem? (slice_set s.views id (taking view node)) seat ≡ some that)).
           ⊎_elim
-          (λ (u : (seat ≡ id) × (taking view node ≡ that)). as_view tables tries ruled.log (less_places ruled.places node.walk.node.0) id seat that (taking view node) u.0 u.1 (from_role tables tries ruled.log (less_places ruled.places node.walk.node.0) id (taking view node) Root role root_after))
-          (λ (u : (seat ≢ id) × (get_elem? s.views seat ≡ some that)). staying_knows tables tries ruled.log ruled.places id other seat node.walk.node.0 that that.role knows.place t.0 (λ zero. u.0 (zero ∙ sym root.first)) (ruled.each seat that u.1))
+          (λ (u : (seat ≡ id) × (taking view node ≡ that)). as_view tables tries ruled.log (less_places ruled.places node.walk.node.0) id seat that
+          (taking view node) u.0 u.1
+          (from_role tables tries ruled.log (less_places ruled.places node.walk.node.0) id (taking view node) Root role root_after))
+          (λ (u : (seat ≢ id) × (get_elem? s.views seat ≡ some that)). staying_knows tables tries ruled.log ruled.places id other seat node.walk.node.0 that
+          that.role knows.place t.0 (λ zero. u.0 (zero ∙ sym root.first)) (ruled.each seat that u.1))
           (at_set s.views id seat (taking view node) that t.1))
           (at_set (slice_set s.views id (taking view node)) other seat spent that at);
     }

@@ -49,14 +49,19 @@ record IsMove (tables : Tables) (tries : ℕ) (log : List Event) (walk : Walk) (
   stamp : (event_by walk load payload).stamp ≤ suc (length log)
 
 is_move : Laws →
-    (tables : Tables) (tries : ℕ) (s : State (Unit {0}) View) (ruled : IsRuled tables tries s) (id : ℕ) (view : View) (load : Load) (payload : ℕ) (mind : Mind) →
+    (tables : Tables) (tries : ℕ) (s : State (Unit {0}) View) (ruled : IsRuled tables tries s) (id : ℕ) (view : View) (load : Load) (payload : ℕ) (mind : Mind)
+    →
     KnowsNode tables tries ruled.log ruled.places id view → IsStep view.line view.walk load payload mind →
     IsMove tables tries ruled.log view.walk load payload mind
 is_move laws tables tries s ruled id view load payload mind knows is =
     let c : CoreState = state tables tries ruled.log in
-    let sound : IsSound tables (length ruled.log) (state tables tries ruled.log) = laws.runs tables tries ruled.log ruled.line ruled.few_tries (omega (arith, few_in_log tables ruled.log ruled.places.handed ruled.line ruled.few ruled.unborn ruled.short)) ruled.run in
-    let step : node_step tables view.walk.node.0 ((state tables tries ruled.log).minds view.walk.node.0) load.word.0 (payload_in load.value) ≡ Some (payload, mind) = rw (knows.line, knows.walk.mind) at is.step in
-    let owned = laws.steps tables view.walk.node.0 load.word.0 (payload_in load.value) payload ((state tables tries ruled.log).minds view.walk.node.0) mind ruled.line (sound.minds view.walk.node.0) step in
+    let sound : IsSound tables (length ruled.log) (state tables tries ruled.log) =
+    laws.runs tables tries ruled.log ruled.line ruled.few_tries
+    (omega (arith, few_in_log tables ruled.log ruled.places.handed ruled.line ruled.few ruled.unborn ruled.short)) ruled.run in
+    let step : node_step tables view.walk.node.0 ((state tables tries ruled.log).minds view.walk.node.0) load.word.0 (payload_in load.value)
+    ≡ Some (payload, mind) = rw (knows.line, knows.walk.mind) at is.step in
+    let owned = laws.steps tables view.walk.node.0 load.word.0 (payload_in load.value) payload
+    ((state tables tries ruled.log).minds view.walk.node.0) mind ruled.line (sound.minds view.walk.node.0) step in
     let word : slice_get (state tables tries ruled.log).words load.word.0 ≡ Some load.value = (knows.walk.fresh load is.loaded).still owned.0 in
     let clock : view.walk.clock ≤ length ruled.log = rw knows.walk.clock (sound.clocks view.walk.node.0) in
     let was : stamp_in load.value ≤ length ruled.log = (sound.words load.word.0 load.value word).1 in
@@ -84,7 +89,10 @@ stepped_walk tables tries log walk load payload mind move is =
     no_load : (l : Load) → None ≡ Some l → ⊥
     no_load l e = cc
 
-node_after : (tables : Tables) (tries : ℕ) (log : List Event) (places : Places) (id : ℕ) (view : View) (load : Load) (payload : ℕ) (mind : Mind) → IsMove tables tries log view.walk load payload mind → KnowsNode tables tries log places id view → KnowsNode tables tries (event_by view.walk load payload ∷ log) places id (record view { walk = views.stepped view.walk (event_by view.walk load payload) mind })
+node_after : (tables : Tables) (tries : ℕ) (log : List Event) (places : Places) (id : ℕ) (view : View) (load : Load) (payload : ℕ) (mind : Mind)
+    → IsMove tables tries log view.walk load payload mind → KnowsNode tables tries log places id view
+    → KnowsNode tables tries (event_by view.walk load payload ∷ log) places id
+    (record view { walk = views.stepped view.walk (event_by view.walk load payload) mind })
 node_after tables tries log places id view load payload mind move knows =
     record {
       later = knows.later;
@@ -118,11 +126,14 @@ same_step view load other payload payload2 mind mind2 a b =
     second : (p q : ℕ) (m k : Mind) → ◌≡◌ {A = Option (ℕ × Mind)} (Some (p, m)) (Some (q, k)) → m ≡ k
     second p q m k e = let pair : ◌≡◌ {A = ℕ × Mind} (p, m) (q, k) = cc in ap (λ (r : ℕ × Mind). r.1) pair
 
-tells : (slots : ℕ) (me : Sat) (load : Load) (payload new : ℕ) (mind : Mind) → IsStep me.0.line me.0.walk load payload mind → (event_by me.0.walk load payload).stamp ≤ most_events → steps (step slots load.word.0 new 0 none) me new (record me.0 { walk = views.stepped me.0.walk (event_by me.0.walk load payload) mind }, me.1)
+tells : (slots : ℕ) (me : Sat) (load : Load) (payload new : ℕ) (mind : Mind) → IsStep me.0.line me.0.walk load payload mind
+    → (event_by me.0.walk load payload).stamp ≤ most_events
+    → steps (step slots load.word.0 new 0 none) me new (record me.0 { walk = views.stepped me.0.walk (event_by me.0.walk load payload) mind }, me.1)
 tells slots me load payload new mind is few other payload2 mind2 also =
     let one : IsOne load other payload payload2 mind mind2 = same_step me.0 load other payload payload2 mind mind2 is also in (
       rw (one.loads_are, one.payloads_are, one.minds_are) refl,
-      subst (λ (l : Load). (event_by me.0.walk l payload2).stamp ≤ most_events) one.loads_are (subst (λ (p : ℕ). (event_by me.0.walk load p).stamp ≤ most_events) one.payloads_are few),
+      subst (λ (l : Load). (event_by me.0.walk l payload2).stamp ≤ most_events) one.loads_are
+          (subst (λ (p : ℕ). (event_by me.0.walk load p).stamp ≤ most_events) one.payloads_are few),
     )
 
 short_after : (log : List Event) (e : Event) (n : ℕ) (mine : List Event) → mine ≡ history e.node.0 log → length mine < most_of_node → ((m : ℕ) →
@@ -142,11 +153,15 @@ pub step_keeps : Laws → (tables : Tables) (tries slots id new : ℕ) (me : Sat
 step_keeps laws tables tries slots id new me load payload mind role is room now s ruled homes there small =
     let e : Event = event_by me.0.walk load payload in
     let view : View = record me.0 { walk = views.stepped me.0.walk (event_by me.0.walk load payload) mind } in
-    let knows : KnowsNode tables tries ruled.log ruled.places id me.0 = as_role tables tries ruled.log ruled.places id me.0 Node role (ruled.each id me.0 there) in
+    let knows : KnowsNode tables tries ruled.log ruled.places id me.0 =
+    as_role tables tries ruled.log ruled.places id me.0 Node role (ruled.each id me.0 there) in
     let move : IsMove tables tries ruled.log me.0.walk load payload mind = is_move laws tables tries s ruled id me.0 load payload mind knows is in
-    let after : KnowsNode tables tries (e ∷ ruled.log) ruled.places id view = node_after tables tries ruled.log ruled.places id me.0 load payload mind move knows in
-    let short : (n : ℕ) → length (history n (e ∷ ruled.log)) ≤ most_of_node = λ n. short_after ruled.log e n me.0.walk.history knows.walk.history room ruled.short in
-    let unborn : (n : ℕ) → ruled.places.handed ≤ n → history n (e ∷ ruled.log) ≡ [] = λ n past. history_other n e ruled.log (λ same. omega (arith, knows.handed)) ∙ ruled.unborn n past in
+    let after : KnowsNode tables tries (e ∷ ruled.log) ruled.places id view =
+    node_after tables tries ruled.log ruled.places id me.0 load payload mind move knows in
+    let short : (n : ℕ) → length (history n (e ∷ ruled.log)) ≤ most_of_node =
+    λ n. short_after ruled.log e n me.0.walk.history knows.walk.history room ruled.short in
+    let unborn : (n : ℕ) → ruled.places.handed ≤ n
+    → history n (e ∷ ruled.log) ≡ [] = λ n past. history_other n e ruled.log (λ same. omega (arith, knows.handed)) ∙ ruled.unborn n past in
     let few : length (e ∷ ruled.log) ≤ most_events = few_in_log tables (e ∷ ruled.log) ruled.places.handed ruled.line ruled.few unborn short in (
       view,
       keeps,
@@ -165,8 +180,10 @@ step_keeps laws tables tries slots id new me load payload mind role is room now 
         nodes = λ n handed live. node_kept s.views id (ruled.places.place n) n me.0 view there role refl (ruled.nodes n handed live);
         each = λ seat other at.
             ⊎_elim
-            (λ (t : (seat ≡ id) × (view ≡ other)). as_view tables tries (e ∷ ruled.log) ruled.places id seat other view t.0 t.1 (from_role tables tries (e ∷ ruled.log) ruled.places id view Node role after))
-            (λ (t : (seat ≢ id) × (get_elem? s.views seat ≡ some other)). other_knows laws.owners tables tries ruled.log ruled.places id seat e other other.role move.word move.owned knows.place knows.later t.0 (ruled.each seat other t.1))
+            (λ (t : (seat ≡ id) × (view ≡ other)). as_view tables tries (e ∷ ruled.log) ruled.places id seat other view t.0 t.1
+            (from_role tables tries (e ∷ ruled.log) ruled.places id view Node role after))
+            (λ (t : (seat ≢ id) × (get_elem? s.views seat ≡ some other)). other_knows laws.owners tables tries ruled.log ruled.places id seat e other other.role
+            move.word move.owned knows.place knows.later t.0 (ruled.each seat other t.1))
             (at_set s.views id seat view other at);
       },
       tells slots me load payload new mind is (omega (arith, move.stamp)),

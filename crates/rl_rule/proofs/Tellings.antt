@@ -35,14 +35,16 @@ pub event_owned : Laws → (tables : Tables) (tries : ℕ) (e : Event) (log : Li
 event_owned laws tables tries e log line few room run =
     let sound : IsSound tables (length log) (state tables tries log) = laws.runs tables tries log line few (omega arith) run.0 in
     let made : IsMade tables (state tables tries log) e = fits_made tables (state tables tries log) e run.1 in
-    (laws.steps tables e.node.0 e.word.0 (payload_in e.was) made.made.0 ((state tables tries log).minds e.node.0) made.made.1 line (sound.minds e.node.0) made.step).0
+    (laws.steps tables e.node.0 e.word.0 (payload_in e.was) made.made.0 ((state tables tries log).minds e.node.0) made.made.1 line
+    (sound.minds e.node.0) made.step).0
 
 pub event_stamped : Laws → (tables : Tables) (tries : ℕ) (e : Event) (log : List Event) → IsLine tables → tries ≤ 1000 → suc (length log) < 2 ^ 32 →
     IsRun tables tries (e ∷ log) → IsStamped (length log) e
 event_stamped laws tables tries e log line few room run =
     let sound : IsSound tables (length log) (state tables tries log) = laws.runs tables tries log line few (omega arith) run.0 in
     let made : IsMade tables (state tables tries log) e = fits_made tables (state tables tries log) e run.1 in
-    let owned = laws.steps tables e.node.0 e.word.0 (payload_in e.was) made.made.0 ((state tables tries log).minds e.node.0) made.made.1 line (sound.minds e.node.0) made.step in
+    let owned = laws.steps tables e.node.0 e.word.0 (payload_in e.was) made.made.0 ((state tables tries log).minds e.node.0) made.made.1 line
+    (sound.minds e.node.0) made.step in
     let clock : (state tables tries log).clocks e.node.0 ≤ length log = sound.clocks e.node.0 in
     let was : stamp_in e.was ≤ length log = (sound.words e.word.0 e.was made.was).1 in
     let stamp : e.stamp ≡ next_stamp ((state tables tries log).clocks e.node.0) e.was = made.stamp in
@@ -69,10 +71,12 @@ told laws tables tries [] n w v e line few room run word last = absurd (cc)
 told laws tables tries (f ∷ log) n w v e line few room run word last =
     let made : IsMade tables (state tables tries log) f = fits_made tables (state tables tries log) f run.1 in
     let stamps : IsStamped (length log) f = event_stamped laws tables tries f log line few (omega arith) run in
-    let before : (u : ℕ) → slice_get (state tables tries log).words w ≡ Some u → last_on w (history n log) ≡ Some e → IsLater e u = λ u at is. told laws tables tries log n w u e line few (omega arith) run.0 at is in
+    let before : (u : ℕ) → slice_get (state tables tries log).words w ≡ Some u → last_on w (history n log) ≡ Some e
+    → IsLater e u = λ u at is. told laws tables tries log n w u e line few (omega arith) run.0 at is in
     elim (cases_eq w f.word.0) [
       | inl here ↦
-          let there : slice_get (slice_set (state tables tries log).words f.word.0 f.now) f.word.0 ≡ Some f.now = get_set_same (state tables tries log).words f.word.0 f.was f.now made.was in
+          let there : slice_get (slice_set (state tables tries log).words f.word.0 f.now) f.word.0 ≡ Some f.now =
+          get_set_same (state tables tries log).words f.word.0 f.was f.now made.was in
           let word_here : slice_get (slice_set (state tables tries log).words f.word.0 f.now) f.word.0 ≡ Some v = rw here at word in
           let is : v ≡ f.now = same_some (slice_get (slice_set (state tables tries log).words f.word.0 f.now) f.word.0) v f.now word_here there in
           elim (cases_eq f.node.0 n) [

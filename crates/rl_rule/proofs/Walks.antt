@@ -29,5 +29,7 @@ pub step_here : (line : Tables) (walk : Walk) (known here : Load) (load : Option
 step_here line walk known here load payload mind same is step =
     subst (λ (l : Load). IsStep line walk l payload mind) (same_load known here (sym step.loaded ∙ (same ∙ is))) step
 
-pub event_same : (walk : Walk) (load : Load) (node : NodeNo) (payload clock stamp now : ℕ) → walk.node ≡ node → walk.clock ≡ clock → stamp ≡ next_stamp clock load.value → now ≡ stamped stamp payload → event_by walk load payload ≡ record { node = node; stamp = stamp; word = load.word; was = load.value; now = now }
+pub event_same : (walk : Walk) (load : Load) (node : NodeNo) (payload clock stamp now : ℕ) → walk.node ≡ node → walk.clock ≡ clock
+    → stamp ≡ next_stamp clock load.value → now ≡ stamped stamp payload
+    → event_by walk load payload ≡ record { node = node; stamp = stamp; word = load.word; was = load.value; now = now }
 event_same walk load node payload clock stamp now node_is clock_is stamp_is now_is = rw (now_is, stamp_is, ← clock_is, ← node_is) refl

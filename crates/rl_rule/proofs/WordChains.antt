@@ -41,7 +41,8 @@ stamps_of laws tables tries e log runs = event_stamped laws tables tries e log r
 pub word_after : (tables : Tables) (tries : ℕ) (e : Event) (log : List Event) (w v : ℕ) → Runs tables tries (e ∷ log) → w ≡ e.word.0 →
     slice_get (state tables tries (e ∷ log)).words w ≡ Some v → v ≡ e.now
 word_after tables tries e log w v runs here word =
-    let there : slice_get (slice_set (state tables tries log).words e.word.0 e.now) e.word.0 ≡ Some e.now = get_set_same (state tables tries log).words e.word.0 e.was e.now (made_of tables tries e log runs).was in
+    let there : slice_get (slice_set (state tables tries log).words e.word.0 e.now) e.word.0 ≡ Some e.now =
+    get_set_same (state tables tries log).words e.word.0 e.was e.now (made_of tables tries e log runs).was in
     let word_here : slice_get (slice_set (state tables tries log).words e.word.0 e.now) e.word.0 ≡ Some v = rw here at word in
     same_some (slice_get (slice_set (state tables tries log).words e.word.0 e.now) e.word.0) v e.now word_here there
 
@@ -71,13 +72,15 @@ not_later laws tables tries (f ∷ log) w v e runs word is =
           (λ (t : e ≡ f). subst (λ (g : Event). g.stamp ≤ stamp_in v) (sym t) (omega arith))
           (λ (t : IsOneOf e log).
           let was : slice_get (state tables tries log).words w ≡ Some f.was = rw here (made_of tables tries f log runs).was in
-          let below : e.stamp ≤ stamp_in f.was = not_later laws tables tries log w f.was e (earlier tables tries f log runs) was (record { among = t; word = is.word }) in
+          let below : e.stamp ≤ stamp_in f.was =
+          not_later laws tables tries log w f.was e (earlier tables tries f log runs) was (record { among = t; word = is.word }) in
           omega (arith, stamps.above))
           is.among
       | inr away ↦
           ⊎_elim
           (λ (t : e ≡ f). absurd (away (sym is.word ∙ ap (λ (g : Event). g.word.0) t)))
-          (λ (t : IsOneOf e log). not_later laws tables tries log w v e (earlier tables tries f log runs) (word_before tables tries f log w v away word) (record { among = t; word = is.word }))
+          (λ (t : IsOneOf e log). not_later laws tables tries log w v e (earlier tables tries f log runs) (word_before tables tries f log w v away word)
+          (record { among = t; word = is.word }))
           is.among
     ]
 
@@ -85,7 +88,8 @@ not_later laws tables tries (f ∷ log) w v e runs word is =
 lower : Laws → (tables : Tables) (tries : ℕ) (f : Event) (log : List Event) (e : Event) → Runs tables tries (f ∷ log) → IsIn log f.word.0 e → e.stamp < f.stamp
 lower laws tables tries f log e runs is =
     let stamps : IsStamped (length log) f = stamps_of laws tables tries f log runs in
-    let below : e.stamp ≤ stamp_in f.was = not_later laws tables tries log f.word.0 f.was e (earlier tables tries f log runs) (made_of tables tries f log runs).was is in
+    let below : e.stamp ≤ stamp_in f.was =
+    not_later laws tables tries log f.word.0 f.was e (earlier tables tries f log runs) (made_of tables tries f log runs).was is in
     omega (arith, stamps.above)
 
 -- the word has what its last event wrote, or what it had at the start
@@ -102,14 +106,18 @@ older_origin : (tables : Tables) (f : Event) (log : List Event) (w v : ℕ) → 
 older_origin tables f log w v away (event e last) = event e (record { is_in = older f log w e last.is_in; now = last.now; stamp = last.stamp })
 older_origin tables f log w v away (start none is) =
     start
-    (λ e here. ⊎_elim (λ (t : e ≡ f). away (sym here.word ∙ ap (λ (g : Event). g.word.0) t)) (λ (t : IsOneOf e log). none e (record { among = t; word = here.word })) here.among)
+    (λ e here. ⊎_elim (λ (t : e ≡ f). away (sym here.word ∙ ap (λ (g : Event). g.word.0) t))
+    (λ (t : IsOneOf e log). none e (record { among = t; word = here.word })) here.among)
     is
 
 pub start_value : (tables : Tables) (tries w v : ℕ) → slice_get (state tables tries []).words w ≡ Some v → v ≡ start_word tables w
 start_value tables tries w v word =
-    let size : length (start_words tables (word_count (layout_of tables))) ≡ word_count (layout_of tables) = start_words-length tables (word_count (layout_of tables)) in
-    let within : w < length (start_words tables (word_count (layout_of tables))) = slice_get_within (start_words tables (word_count (layout_of tables))) w v word in
-    let there : slice_get (start_words tables (word_count (layout_of tables))) w ≡ Some (start_word tables w) = start_words-get tables (word_count (layout_of tables)) w (omega arith) in
+    let size : length (start_words tables (word_count (layout_of tables))) ≡ word_count (layout_of tables) =
+    start_words-length tables (word_count (layout_of tables)) in
+    let within : w < length (start_words tables (word_count (layout_of tables))) =
+    slice_get_within (start_words tables (word_count (layout_of tables))) w v word in
+    let there : slice_get (start_words tables (word_count (layout_of tables))) w ≡ Some (start_word tables w) =
+    start_words-get tables (word_count (layout_of tables)) w (omega arith) in
     same_some (slice_get (start_words tables (word_count (layout_of tables))) w) v (start_word tables w) word there
 
 origin : Laws → (tables : Tables) (tries : ℕ) (log : List Event) (w v : ℕ) → Runs tables tries log → slice_get (state tables tries log).words w ≡ Some v →
@@ -121,7 +129,8 @@ origin laws tables tries (f ∷ log) w v runs word =
           let now : v ≡ f.now = word_after tables tries f log w v runs here word in
           let stamps : IsStamped (length log) f = stamps_of laws tables tries f log runs in
           event f (record { is_in = record { among = inl refl; word = sym here }; now = now; stamp = rw now stamps.now })
-      | inr away ↦ older_origin tables f log w v away (origin laws tables tries log w v (earlier tables tries f log runs) (word_before tables tries f log w v away word))
+      | inr away ↦ older_origin tables f log w v away
+          (origin laws tables tries log w v (earlier tables tries f log runs) (word_before tables tries f log w v away word))
     ]
 
 -- where a value below a bound comes from, in the log
@@ -167,7 +176,8 @@ lift tables f log w bound v high (event e last is) =
     (record {
       is_in = older f log w e last.is_in;
       below = last.below;
-      last = λ g here below. newer f log w g (λ (x : Event). x.stamp < bound → x.stamp ≤ e.stamp) (λ same low. absurd (omega (arith, high same))) (λ x old low. last.last x old low) here below;
+      last = λ g here below. newer f log w g (λ (x : Event). x.stamp < bound
+          → x.stamp ≤ e.stamp) (λ same low. absurd (omega (arith, high same))) (λ x old low. last.last x old low) here below;
     })
     is
 lift tables f log w bound v high (start none is) =
@@ -219,7 +229,8 @@ apart laws tables tries (g ∷ log) w e f runs a b same =
     let word : e.word.0 ≡ g.word.0 = a.word ∙ (sym b.word ∙ ap (λ (x : Event). x.word.0) t) in
     let below : e.stamp < g.stamp = lower laws tables tries g log e runs (record { among = s; word = word }) in
     absurd (omega (arith, ap (λ (x : Event). x.stamp) t)))
-    (λ (t : IsOneOf f log). apart laws tables tries log w e f (earlier tables tries g log runs) (record { among = s; word = a.word }) (record { among = t; word = b.word }) same)
+    (λ (t : IsOneOf f log). apart laws tables tries log w e f (earlier tables tries g log runs) (record { among = s; word = a.word })
+    (record { among = t; word = b.word }) same)
     b.among)
     a.among
 
@@ -240,7 +251,8 @@ pub word_chain : Laws → (tables : Tables) (tries : ℕ) (log : List Event) (wo
 word_chain laws tables tries log words w runs are =
     record {
       apart = λ e f a b same. apart laws tables tries log w e f runs (in_log log w e a) (in_log log w f b) same;
-      old = λ e on. comes_from tables log w e.stamp e.was (subst (λ (k : ℕ). Comes tables log k e.stamp e.was) on.word (comes_old laws tables tries log e runs (in_log log w e on).among));
+      old = λ e on. comes_from tables log w e.stamp e.was
+          (subst (λ (k : ℕ). Comes tables log k e.stamp e.was) on.word (comes_old laws tables tries log e runs (in_log log w e on).among));
       bound = suc (length log);
       highest = λ e on. let low : e.stamp ≤ length log = stamps_few laws tables tries log e runs (in_log log w e on).among in omega arith;
       now = λ value word.

@@ -30,7 +30,8 @@ pub fn rule_of_rails()
 /// Nobody but the box may ever change its reservations, so a load of them gives what the box wrote last.
 pub fn alone_with_reservations()
     ensures { (tables : Tables) (b : BoxId) → HasWord (layout_of tables) (words.Resv b)
-        → IsAlone tables (word_number (layout_of tables) (words.Resv b)) (node_number (layout_of tables) (nodes.Box b)) }
+        → IsAlone tables (word_number (layout_of tables) (words.Resv b))
+        (node_number (layout_of tables) (nodes.Box b)) }
 {
     numberings();
 }

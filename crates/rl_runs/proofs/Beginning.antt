@@ -80,7 +80,8 @@ start_mind_at tables tries (nodes.Track t) few = omega arith
 start_mind_at tables tries (nodes.Box b) few = λ x is. record { work = tt; waiting = tt }
 start_mind_at tables tries (nodes.Machine b) few = tt
 
-pub start_minds : (tables : Tables) (tries n : ℕ) (node : NodeKind) → tries ≤ 1000 → node_at (layout_of tables) n ≡ Some node → IsMindOf tables node (start_mind tables tries n)
+pub start_minds : (tables : Tables) (tries n : ℕ) (node : NodeKind) → tries ≤ 1000 → node_at (layout_of tables) n ≡ Some node
+    → IsMindOf tables node (start_mind tables tries n)
 start_minds tables tries n node few at =
     let P : Option NodeKind → Type 0 = λ o. IsMindOf tables node (start_mind_of tries o) in
     subst P (sym at) (start_mind_at tables tries node few)

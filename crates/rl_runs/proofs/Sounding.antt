@@ -40,12 +40,15 @@ stamp_of_stamped stamp payload s p =
 
 start_sound : (tables : Tables) (tries : ℕ) → IsLine tables → tries ≤ 1000 → IsSound tables 0 (start tables tries)
 start_sound tables tries line few =
-    let size : length (start_words tables (word_count (layout_of tables))) ≡ word_count (layout_of tables) = start_words-length tables (word_count (layout_of tables)) in
+    let size : length (start_words tables (word_count (layout_of tables))) ≡ word_count (layout_of tables) =
+    start_words-length tables (word_count (layout_of tables)) in
     record {
       size = size;
       words = λ w v is.
-          let within : w < length (start_words tables (word_count (layout_of tables))) = slice_get_within (start_words tables (word_count (layout_of tables))) w v is in
-          let there : slice_get (start_words tables (word_count (layout_of tables))) w ≡ Some (start_word tables w) = start_words-get tables (word_count (layout_of tables)) w (omega arith) in
+          let within : w < length (start_words tables (word_count (layout_of tables))) =
+          slice_get_within (start_words tables (word_count (layout_of tables))) w v is in
+          let there : slice_get (start_words tables (word_count (layout_of tables))) w ≡ Some (start_word tables w) =
+          start_words-get tables (word_count (layout_of tables)) w (omega arith) in
           let same : start_word tables w ≡ v = cc in
           let fits : start_word tables w < 2 ^ 32 = start_fits tables w line in
           let fits_v : v < 2 ^ 32 = rw (← same) fits in
@@ -55,14 +58,16 @@ start_sound tables tries line few =
       minds = λ n node at. start_minds tables tries n node few at;
     }
 
-word_after : (tables : Tables) (k : ℕ) (c : CoreState) (e : Event) (v : ℕ) → suc k < 2 ^ 32 → IsSound tables k c → (made : IsMade tables c e) → made.made.0 < 2 ^ 32 → e.stamp ≤ suc k → v ≡ e.now → (v < 2 ^ 64) × (stamp_in v ≤ suc k)
+word_after : (tables : Tables) (k : ℕ) (c : CoreState) (e : Event) (v : ℕ) → suc k < 2 ^ 32 → IsSound tables k c → (made : IsMade tables c e)
+    → made.made.0 < 2 ^ 32 → e.stamp ≤ suc k → v ≡ e.now → (v < 2 ^ 64) × (stamp_in v ≤ suc k)
 word_after tables k c e v room sound made small le is =
     let now : v ≡ stamped e.stamp made.made.0 = is ∙ made.now in
     let stamp : stamp_in (stamped e.stamp made.made.0) ≡ e.stamp = stamp_of_stamped e.stamp made.made.0 (omega arith) small in
     let stamp_v : stamp_in v ≡ e.stamp = rw now stamp in
     (omega arith, omega arith)
 
-event_sound : StepsKeep → (tables : Tables) (k : ℕ) (c : CoreState) (e : Event) → IsLine tables → suc k < 2 ^ 32 → IsSound tables k c → Fits tables c e → IsSound tables (suc k) (after tables c e)
+event_sound : StepsKeep → (tables : Tables) (k : ℕ) (c : CoreState) (e : Event) → IsLine tables → suc k < 2 ^ 32 → IsSound tables k c → Fits tables c e
+    → IsSound tables (suc k) (after tables c e)
 event_sound laws tables k c e line room sound fits =
     let made : IsMade tables c e = fits_made tables c e fits in
     let kept = step_keeps laws tables e.node.0 e.word.0 (payload_in e.was) (c.minds e.node.0) made.made line (sound.minds e.node.0) made.step in
@@ -103,7 +108,8 @@ event_sound laws tables k c e line room sound fits =
 abbrev pub AreMinded : Tables → CoreState → Type 0
 AreMinded tables c = (n : ℕ) (node : NodeKind) → node_at (layout_of tables) n ≡ Some node → IsMindOf tables node (c.minds n)
 
-event_minded : StepsKeep → (tables : Tables) (c : CoreState) (e : Event) → IsLine tables → AreMinded tables c → Fits tables c e → AreMinded tables (after tables c e)
+event_minded : StepsKeep → (tables : Tables) (c : CoreState) (e : Event) → IsLine tables → AreMinded tables c → Fits tables c e
+    → AreMinded tables (after tables c e)
 event_minded laws tables c e line minded fits =
     let made : IsMade tables c e = fits_made tables c e fits in
     let kept = step_keeps laws tables e.node.0 e.word.0 (payload_in e.was) (c.minds e.node.0) made.made line (minded e.node.0) made.step in
@@ -116,12 +122,14 @@ event_minded laws tables c e line minded fits =
       | inr other ↦ rw (put_other c.minds e.node.0 (mind_after tables c e) n other) (minded n at_n at)
     ]
 
-pub runs_minded : StepsKeep → (tables : Tables) (tries : ℕ) (events : List Event) → IsLine tables → tries ≤ 1000 → IsRun tables tries events → AreMinded tables (state tables tries events)
+pub runs_minded : StepsKeep → (tables : Tables) (tries : ℕ) (events : List Event) → IsLine tables → tries ≤ 1000 → IsRun tables tries events
+    → AreMinded tables (state tables tries events)
 runs_minded laws tables tries [] line few run = λ n node at. start_minds tables tries n node few at
 runs_minded laws tables tries (e ∷ earlier) line few run =
     event_minded laws tables (state tables tries earlier) e line (runs_minded laws tables tries earlier line few run.0) run.1
 
-pub runs_sound : StepsKeep → (tables : Tables) (tries : ℕ) (events : List Event) → IsLine tables → tries ≤ 1000 → length events < 2 ^ 32 → IsRun tables tries events → IsSound tables (length events) (state tables tries events)
+pub runs_sound : StepsKeep → (tables : Tables) (tries : ℕ) (events : List Event) → IsLine tables → tries ≤ 1000 → length events < 2 ^ 32
+    → IsRun tables tries events → IsSound tables (length events) (state tables tries events)
 runs_sound laws tables tries [] line few room run = start_sound tables tries line few
 runs_sound laws tables tries (e ∷ earlier) line few room run =
     event_sound laws tables (length earlier) (state tables tries earlier) e line room

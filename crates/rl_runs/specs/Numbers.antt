@@ -30,6 +30,8 @@ word_at lay w =
     else (if nat_lt w (1 + lay.boxes) then Some (words.Resv (box (w - 1)))
     else (if nat_lt w (1 + 2 * lay.boxes) then Some (words.Lock (box (w - (1 + lay.boxes))))
     else (if nat_lt w (1 + 2 * lay.boxes + lay.trains) then Some (words.Mail (train (w - (1 + 2 * lay.boxes))))
-    else (if nat_lt w (1 + 2 * lay.boxes + 2 * lay.trains) then Some (words.Run (train (w - (1 + 2 * lay.boxes + lay.trains))))
-    else (if nat_lt w (1 + 2 * lay.boxes + 3 * lay.trains) then Some (words.Sense (train (w - (1 + 2 * lay.boxes + 2 * lay.trains))))
+    else (if nat_lt w (1 + 2 * lay.boxes + 2 * lay.trains) then Some
+    (words.Run (train (w - (1 + 2 * lay.boxes + lay.trains))))
+    else (if nat_lt w (1 + 2 * lay.boxes + 3 * lay.trains) then Some
+    (words.Sense (train (w - (1 + 2 * lay.boxes + 2 * lay.trains))))
     else None)))))

@@ -20,7 +20,8 @@ use Rattle.rl_runs.specs.State.{CoreState}
 abbrev pub IsMindOf : Tables → NodeKind → Mind → Type 0
 IsMindOf tables (nodes.Train t) (Train m) = (x : TrainTable) → slice_get tables.trains t.0 ≡ Some x → IsTrainMind x m
 IsMindOf tables (nodes.Track t) (Track m) = IsTrackMind m
-IsMindOf tables (nodes.Box b) (Box m) = (x : BoxTable) → slice_get tables.boxes b.0 ≡ Some x → IsBoxMind (layout_of tables) x m
+IsMindOf tables (nodes.Box b) (Box m) = (x : BoxTable) → slice_get tables.boxes b.0 ≡ Some x
+    → IsBoxMind (layout_of tables) x m
 IsMindOf tables (nodes.Machine b) (Machine m) = Unit {0}
 IsMindOf tables node mind = ⊥
 

@@ -60,7 +60,14 @@ next_stamp clock was = suc (max clock (stamp_in was))
 
 abbrev pub event_at : ℕ → ℕ → ℕ → ℕ → ℕ → Event
 event_at node stamp word was payload =
-    record { node = record { 0 = node }; stamp = stamp; word = record { 0 = word }; was = was; now = stamped stamp payload }
+    record {
+      node = record { 0 = node };
+      stamp = stamp;
+      word = record { 0 = word };
+      was = was;
+      now =
+          stamped stamp payload;
+    }
 
 -- the step of node n of the state on word w
 abbrev pub step_in : Tables → CoreState → ℕ → ℕ → Option (ℕ × Mind)
@@ -75,7 +82,8 @@ event_of tables c n w =
 -- the mind of the event's node after it
 abbrev pub mind_after : Tables → CoreState → Event → Mind
 mind_after tables c e =
-    option_map_or (λ r. r.1) (node_step tables e.node.0 (c.minds e.node.0) e.word.0 (payload_in e.was)) (c.minds e.node.0)
+    option_map_or (λ r. r.1) (node_step tables e.node.0 (c.minds e.node.0) e.word.0 (payload_in e.was))
+    (c.minds e.node.0)
 
 -- the state after an event: its word, and the mind and the clock of its node are new
 abbrev pub after : Tables → CoreState → Event → CoreState

@@ -37,7 +37,8 @@ step_of tables node mind word payload = None
 -- the same by the numbers of node and word, and none for numbers out of range
 unfoldable pub node_step : Tables → ℕ → Mind → ℕ → ℕ → Option (ℕ × Mind)
 node_step tables n mind w payload =
-    option_and_then (λ node. option_and_then (λ word. step_of tables node mind word payload) (word_at (layout_of tables) w))
+    option_and_then (λ node. option_and_then (λ word. step_of tables node mind word payload)
+    (word_at (layout_of tables) w))
     (node_at (layout_of tables) n)
 
 -- a box that has nothing in hand
@@ -52,7 +53,8 @@ is_ready mind = false
 
 -- the word at which a node with this mind looks, a ready box by the place that it scans. A train at rest looks at none
 abbrev pub target_kind : Tables → NodeKind → Mind → ℕ → Option WordKind
-target_kind tables (nodes.Train t) (Train m) scan = option_and_then (λ (x : TrainTable). train_target x m) (slice_get tables.trains t.0)
+target_kind tables (nodes.Train t) (Train m) scan =
+    option_and_then (λ (x : TrainTable). train_target x m) (slice_get tables.trains t.0)
 target_kind tables (nodes.Track t) (Track m) scan = Some (track_target t m)
 target_kind tables (nodes.Box b) (Box m) scan =
     option_map (λ (x : BoxTable). box_target (layout_of tables) x m scan) (slice_get tables.boxes b.0)
@@ -61,4 +63,5 @@ target_kind tables node mind scan = None
 
 abbrev pub target_of : Tables → ℕ → Mind → ℕ → Option ℕ
 target_of tables n mind scan =
-    option_and_then (λ node. option_map (word_number (layout_of tables)) (target_kind tables node mind scan)) (node_at (layout_of tables) n)
+    option_and_then (λ node. option_map (word_number (layout_of tables)) (target_kind tables node mind scan))
+    (node_at (layout_of tables) n)

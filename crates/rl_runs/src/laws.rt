@@ -20,15 +20,21 @@ use rl_train::{train_steps, usable_tables};
 
 /// The node and the word of a number are those with that number.
 pub fn numbered()
-    ensures node { (lay : Layout) (kind : NodeKind) → HasNode lay kind → node_at lay (node_number lay kind) ≡ Some kind }
-    ensures node_back { (lay : Layout) (n : ℕ) (kind : NodeKind) → node_at lay n ≡ Some kind → HasNode lay kind × (node_number lay kind ≡ n) }
-    ensures word { (lay : Layout) (kind : WordKind) → HasWord lay kind → word_at lay (word_number lay kind) ≡ Some kind }
-    ensures word_back { (lay : Layout) (w : ℕ) (kind : WordKind) → word_at lay w ≡ Some kind → HasWord lay kind × (word_number lay kind ≡ w) }
+    ensures node { (lay : Layout) (kind : NodeKind) → HasNode lay kind
+        → node_at lay (node_number lay kind) ≡ Some kind }
+    ensures node_back { (lay : Layout) (n : ℕ) (kind : NodeKind) → node_at lay n ≡ Some kind
+        → HasNode lay kind × (node_number lay kind ≡ n) }
+    ensures word { (lay : Layout) (kind : WordKind) → HasWord lay kind
+        → word_at lay (word_number lay kind) ≡ Some kind }
+    ensures word_back { (lay : Layout) (w : ℕ) (kind : WordKind) → word_at lay w ≡ Some kind
+        → HasWord lay kind × (word_number lay kind ≡ w) }
 {}
 
 /// A step changes a word that its node owns, and its payload fits 32 bits.
 pub fn steps_of_owners()
-    ensures { (tables : Tables) (n w payload new : ℕ) (mind after : Mind) → IsLine tables → ((node : NodeKind) → node_at (layout_of tables) n ≡ Some node → IsMindOf tables node mind) → node_step tables n mind w payload ≡ Some (new, after) → Owns (layout_of tables) w payload n × (new < 2 ^ 32) }
+    ensures { (tables : Tables) (n w payload new : ℕ) (mind after : Mind) → IsLine tables
+        → ((node : NodeKind) → node_at (layout_of tables) n ≡ Some node → IsMindOf tables node mind)
+        → node_step tables n mind w payload ≡ Some (new, after) → Owns (layout_of tables) w payload n × (new < 2 ^ 32) }
 {
     // What each mind's steps keep to, for the proof.
     usable_tables();
@@ -40,7 +46,9 @@ pub fn steps_of_owners()
 
 /// The state after every run has its words, stamps and clocks in range, and well-formed minds.
 pub fn sound_runs()
-    ensures { (tables : Tables) (tries : ℕ) (events : List Event) → IsLine tables → tries ≤ 1000 → length events < 2 ^ 32 → IsRun tables tries events → IsSound tables (length events) (state tables tries events) }
+    ensures { (tables : Tables) (tries : ℕ) (events : List Event) → IsLine tables → tries ≤ 1000
+        → length events < 2 ^ 32 → IsRun tables tries events
+        → IsSound tables (length events) (state tables tries events) }
 {
     // What each mind's steps keep to, for the proof.
     usable_tables();

@@ -82,7 +82,8 @@ under_way_passing m h = of m.waits (passes m.job) (not (begins m.job)) h
     of true pass other h = refl
     of false pass other h = absurd (false≢true h)
 
-module _ (net : NetworkPlan) (line : Line) (tries : ℕ) (s : State) (network : IsNetwork net) (of : IsLineOf net line) (trains : HasTrains line (length net.trains)) (agrees : Agrees line tries s) where
+module _ (net : NetworkPlan) (line : Line) (tries : ℕ) (s : State) (network : IsNetwork net) (of : IsLineOf net line)
+    (trains : HasTrains line (length net.trains)) (agrees : Agrees line tries s) where
   place_there : (t : ℕ) → IsOnRoute net t (s.run t)
   place_there t = by (is_passing (s.trains t)) refl
     where
@@ -102,9 +103,12 @@ module _ (net : NetworkPlan) (line : Line) (tries : ℕ) (s : State) (network : 
         | inl there ↦ there
         | inr past ↦
             let rests = stays_at_rest line tries s u.0 agrees (trains u.0 past) in
-            let gone : route_segment net u.0 (s.trains u.0).step ≡ None = ap (option_and_then (λ (r : Train). option_map (λ (z : SegId). z.0) (slice_get r.segments (s.trains u.0).step))) (slice_get_past net.trains u.0 past) in
+            let gone : route_segment net u.0 (s.trains u.0).step ≡ None =
+            ap (option_and_then (λ (r : Train). option_map (λ (z : SegId). z.0) (slice_get r.segments (s.trains u.0).step)))
+            (slice_get_past net.trains u.0 past) in
             let none : is_held_by u.0 (s.resv b x) ≡ false =
-            rest_holds line tries s agrees u.0 rests b x ∙ of.ends u.0 (s.trains u.0).step b x ∙ ap (same_number (segment_at net b x)) gone ∙ same_as_none (segment_at net b x) in
+            rest_holds line tries s agrees u.0 rests b x ∙ of.ends u.0 (s.trains u.0).step b x ∙ ap (same_number (segment_at net b x)) gone
+            ∙ same_as_none (segment_at net b x) in
             absurd (both_ways _ none (ap (is_held_by u.0) held ∙ eq-eqb u.0 u.0 refl))
       ]
 
@@ -122,6 +126,7 @@ module _ (net : NetworkPlan) (line : Line) (tries : ℕ) (s : State) (network : 
       record {
         places = place_there;
         holders = holder_there;
-        free = λ b x past. agrees.reservations.free b x (no_arm (line.has_arm b x) (line.segment b x).0 (segment_at net b x) (of.segment b x) (no_segment net b x network past));
+        free = λ b x past. agrees.reservations.free b x
+            (no_arm (line.has_arm b x) (line.segment b x).0 (segment_at net b x) (of.segment b x) (no_segment net b x network past));
         lockers = locker_there;
       }

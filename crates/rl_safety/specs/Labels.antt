@@ -1,4 +1,5 @@
--- An event as a step of the protocol: the step fits the state, leaves the mind and the word of the event, and has its move.
+-- An event as a step of the protocol: the step fits the state, leaves the mind and the word of the event, and has its
+-- move.
 use Rattle.std.specs.Prelude.{◌≡◌, ℕ, Some}
 use Rattle.rl_base.specs.declared.layout.NodeKind.{NodeKind}
 use Rattle.rl_words.specs.Word.{Word}

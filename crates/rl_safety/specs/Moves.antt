@@ -66,7 +66,8 @@ mail_move tables t _ _ = None
 
 -- a train that was to go and is across entered; one that was across and is clear left its segment
 abbrev pub run_move : Tables → TrainId → RunWord → RunWord → Option Move
-run_move tables t (Go k) (Across j) = option_map (λ (row : StepRow). moves.Enter t row.b row.s row.s2) (row_at tables t.0 k)
+run_move tables t (Go k) (Across j) =
+    option_map (λ (row : StepRow). moves.Enter t row.b row.s row.s2) (row_at tables t.0 k)
 run_move tables t (Across k) (Clear j) = option_map (λ (row : StepRow). moves.Leave t row.s) (row_at tables t.0 k)
 run_move tables t _ _ = None
 

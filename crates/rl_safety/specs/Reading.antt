@@ -58,20 +58,24 @@ has_word lay (words.Sense t) = nat_lt t.0 lay.trains
 -- what a word says, as its payload; 0 for a word that isn't there
 abbrev pub payload_of : Tables → CoreState → WordKind → ℕ
 payload_of tables c kind =
-    if has_word (layout_of tables) kind then payload_in (slice_index_or c.words (word_number (layout_of tables) kind) 0) else 0
+    if has_word (layout_of tables) kind then payload_in
+    (slice_index_or c.words (word_number (layout_of tables) kind) 0) else 0
 
 -- the mind of a train, a track and a box of the line
 abbrev pub train_of : Tables → ℕ → CoreState → ℕ → TrainMind
 train_of tables tries c t =
-    if nat_lt t (layout_of tables).trains then train_mind tries (c.minds (node_number (layout_of tables) (nodes.Train (train t)))) else start_train tries
+    if nat_lt t (layout_of tables).trains then train_mind tries
+    (c.minds (node_number (layout_of tables) (nodes.Train (train t)))) else start_train tries
 
 abbrev pub track_of : Tables → CoreState → ℕ → TrackMind
 track_of tables c t =
-    if nat_lt t (layout_of tables).trains then track_mind (c.minds (node_number (layout_of tables) (nodes.Track (train t)))) else start_track
+    if nat_lt t (layout_of tables).trains then track_mind
+    (c.minds (node_number (layout_of tables) (nodes.Track (train t)))) else start_track
 
 abbrev pub box_of : Tables → CoreState → ℕ → BoxMind
 box_of tables c b =
-    if nat_lt b (layout_of tables).boxes then box_mind (c.minds (node_number (layout_of tables) (nodes.Box (box b)))) else start_box
+    if nat_lt b (layout_of tables).boxes then box_mind
+    (c.minds (node_number (layout_of tables) (nodes.Box (box b)))) else start_box
 
 -- who holds an arm, of a reservation word that has been read
 abbrev pub holder_of : Option ResvWord → ℕ → Option TrainId

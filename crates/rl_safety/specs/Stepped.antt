@@ -21,4 +21,5 @@ pub record IsStepped (tables : Tables) (tries : ℕ) (events : List Event) : Typ
   pub state : read tables tries (runs.state tables tries events) ≡ protocol.state_after (line_of tables) tries steps
   pub moves : moves_of tables events ≡ protocol.moves_of (line_of tables) steps
   pub count : length events ≡ length steps
-  pub by : (n : ℕ) (node : NodeKind) → node_at (layout_of tables) n ≡ Some node → events_by n events ≡ events_of node steps
+  pub by : (n : ℕ) (node : NodeKind) → node_at (layout_of tables) n ≡ Some node
+      → events_by n events ≡ events_of node steps

@@ -21,15 +21,18 @@ use Rattle.rl_core.specs.Cores.{Core, LeadsTo, IsReached}
 use Rattle.rl_schedule.specs.Driven.{IsDriven, IsPartlyDriven, GoesOn, BreaksOff, IsOnLine, move_in}
 
 -- the moves that a turn adds
-moves_with : (tables : Tables) (c : CoreState) (events : List Event) (w : ℕ) (o : Option Event) → moves_of tables (events_with events o) ≡ moves_of tables events ++ option_to_list (move_in tables (answer_at c w o))
+moves_with : (tables : Tables) (c : CoreState) (events : List Event) (w : ℕ) (o : Option Event)
+    → moves_of tables (events_with events o) ≡ moves_of tables events ++ option_to_list (move_in tables (answer_at c w o))
 moves_with tables c events w None = sym (append-nil (moves_of tables events))
 moves_with tables c events w (Some e) = refl
 
-moves_at : (tables : Tables) (c : CoreState) (events : List Event) (n : ℕ) (t : Option ℕ) → moves_of tables (events_of_target tables c events n t) ≡ moves_of tables events ++ option_to_list (move_in tables (answer_of_target tables c n t))
+moves_at : (tables : Tables) (c : CoreState) (events : List Event) (n : ℕ) (t : Option ℕ)
+    → moves_of tables (events_of_target tables c events n t) ≡ moves_of tables events ++ option_to_list (move_in tables (answer_of_target tables c n t))
 moves_at tables c events n None = sym (append-nil (moves_of tables events))
 moves_at tables c events n (Some w) = moves_with tables c events w (event_of tables c n w)
 
-moves_turned : (tables : Tables) (tries : ℕ) (d : Drive) (n : ℕ) → moves_of tables (turn_of tables tries d n).events ≡ moves_of tables d.events ++ option_to_list (move_in tables (answer_of tables tries d n))
+moves_turned : (tables : Tables) (tries : ℕ) (d : Drive) (n : ℕ)
+    → moves_of tables (turn_of tables tries d n).events ≡ moves_of tables d.events ++ option_to_list (move_in tables (answer_of tables tries d n))
 moves_turned tables tries d n = moves_at tables (state tables tries d.events) d.events n (target_in tables (state tables tries d.events) d n)
 
 -- the events that a turn adds: one at most
@@ -45,28 +48,37 @@ pub events_turned : (tables : Tables) (tries : ℕ) (d : Drive) (n : ℕ) → le
 events_turned tables tries d n = events_at tables (state tables tries d.events) d.events n (target_in tables (state tables tries d.events) d n)
 
 -- the word that a turn changes is one of the words
-on_line_step : (tables : Tables) (c : CoreState) (n w was : ℕ) (o : Option (ℕ × Mind)) → w < word_count (layout_of tables) → IsOnLine tables (answer_at c w (option_map (λ r. event_at n (next_stamp (c.clocks n) was) w was r.0) o))
+on_line_step : (tables : Tables) (c : CoreState) (n w was : ℕ) (o : Option (ℕ × Mind)) → w < word_count (layout_of tables)
+    → IsOnLine tables (answer_at c w (option_map (λ r. event_at n (next_stamp (c.clocks n) was) w was r.0) o))
 on_line_step tables c n w was None within = tt
 on_line_step tables c n w was (Some r) within = within
 
-on_line_word : (tables : Tables) (c : CoreState) (n w : ℕ) (o : Option ℕ) → length c.words ≡ word_count (layout_of tables) → slice_get c.words w ≡ o → IsOnLine tables (answer_at c w (option_and_then (λ was. option_map (λ r. event_at n (next_stamp (c.clocks n) was) w was r.0) (node_step tables n (c.minds n) w (payload_in was))) o))
+on_line_word : (tables : Tables) (c : CoreState) (n w : ℕ) (o : Option ℕ) → length c.words ≡ word_count (layout_of tables) → slice_get c.words w ≡ o
+    → IsOnLine tables (answer_at c w
+    (option_and_then (λ was. option_map (λ r. event_at n (next_stamp (c.clocks n) was) w was r.0) (node_step tables n (c.minds n) w (payload_in was))) o))
 on_line_word tables c n w None words at = tt
 on_line_word tables c n w (Some was) words at =
     let within : w < length c.words = slice_get_within c.words w was at in
     on_line_step tables c n w was (node_step tables n (c.minds n) w (payload_in was)) (omega arith)
 
-on_line_at : (tables : Tables) (c : CoreState) (n : ℕ) (t : Option ℕ) → length c.words ≡ word_count (layout_of tables) → IsOnLine tables (answer_of_target tables c n t)
+on_line_at : (tables : Tables) (c : CoreState) (n : ℕ) (t : Option ℕ) → length c.words ≡ word_count (layout_of tables)
+    → IsOnLine tables (answer_of_target tables c n t)
 on_line_at tables c n None words = tt
 on_line_at tables c n (Some w) words = on_line_word tables c n w (slice_get c.words w) words refl
 
-pub on_line : (core new : Core) (n : ℕ) (turn : Turn) (line : Tables) → IsReached core → ((d : Drive) → LeadsTo d core → turn ≡ answer_of core.line core.tries d n) → new.line ≡ core.line → line ≡ new.line → IsOnLine line turn
+pub on_line : (core new : Core) (n : ℕ) (turn : Turn) (line : Tables) → IsReached core
+    → ((d : Drive) → LeadsTo d core → turn ≡ answer_of core.line core.tries d n) → new.line ≡ core.line → line ≡ new.line → IsOnLine line turn
 on_line core new n turn line reached answer kept is =
     let d = reached.drive in
     let words : length (state core.line core.tries d.events).words ≡ word_count (layout_of core.line) = rw reached.leads.state reached.sizes.words in
-    rw (is, kept, answer d reached.leads) (on_line_at core.line (state core.line core.tries d.events) n (target_in core.line (state core.line core.tries d.events) d n) words)
+    rw (is, kept, answer d reached.leads)
+    (on_line_at core.line (state core.line core.tries d.events) n (target_in core.line (state core.line core.tries d.events) d n) words)
 
 -- by a turn
-pub goes_turn : (core new : Core) (n : ℕ) (turn : Turn) (moves : List Move) → IsReached core → ((d : Drive) → LeadsTo d core → LeadsTo (turn_of core.line core.tries d n) new) → ((d : Drive) → LeadsTo d core → turn ≡ answer_of core.line core.tries d n) → new.line ≡ core.line → new.tries ≡ core.tries → GoesOn core moves (n ∷ []) new (moves ++ option_to_list (move_in core.line turn))
+pub goes_turn : (core new : Core) (n : ℕ) (turn : Turn) (moves : List Move) → IsReached core
+    → ((d : Drive) → LeadsTo d core → LeadsTo (turn_of core.line core.tries d n) new)
+    → ((d : Drive) → LeadsTo d core → turn ≡ answer_of core.line core.tries d n) → new.line ≡ core.line → new.tries ≡ core.tries
+    → GoesOn core moves (n ∷ []) new (moves ++ option_to_list (move_in core.line turn))
 goes_turn core new n turn moves reached turned answer line tries =
     record {
       line = line;
@@ -91,12 +103,16 @@ goes_turn core new n turn moves reached turned answer line tries =
             let said : turn ≡ answer_of from.line from.tries end n = rw (driven.leads.line, driven.leads.tries) at (answer end there) in
             let made : moves_of from.line end.events ≡ moves_of from.line d.events ++ moves = driven.makes d leads in
             rw (fold-append (turn_of from.line from.tries) d before (n ∷ []), driven.leads.line)
-            (moves_turned from.line from.tries end n ∙ rw (made, ← said) (append_assoc (moves_of from.line d.events) moves (option_to_list (move_in from.line turn))));
+            (moves_turned from.line from.tries end n
+            ∙ rw (made, ← said) (append_assoc (moves_of from.line d.events) moves (option_to_list (move_in from.line turn))));
       };
     }
 
 -- by a turn whose move was put behind the others
-pub goes_put : (core new : Core) (n : ℕ) (turn : Turn) (line : Tables) (moves then_moves : List Move) (o : Option Move) → IsReached core → ((d : Drive) → LeadsTo d core → LeadsTo (turn_of core.line core.tries d n) new) → ((d : Drive) → LeadsTo d core → turn ≡ answer_of core.line core.tries d n) → new.line ≡ core.line → new.tries ≡ core.tries → line ≡ new.line → o ≡ move_in line turn → then_moves ≡ moves ++ option_to_list o → GoesOn core moves (n ∷ []) new then_moves
+pub goes_put : (core new : Core) (n : ℕ) (turn : Turn) (line : Tables) (moves then_moves : List Move) (o : Option Move) → IsReached core
+    → ((d : Drive) → LeadsTo d core → LeadsTo (turn_of core.line core.tries d n) new)
+    → ((d : Drive) → LeadsTo d core → turn ≡ answer_of core.line core.tries d n) → new.line ≡ core.line → new.tries ≡ core.tries → line ≡ new.line
+    → o ≡ move_in line turn → then_moves ≡ moves ++ option_to_list o → GoesOn core moves (n ∷ []) new then_moves
 goes_put core new n turn line moves then_moves o reached turned answer kept tries is made put =
     let goes = goes_turn core new n turn moves reached turned answer kept tries in
     let now : then_moves ≡ moves ++ option_to_list (move_in core.line turn) =
@@ -122,7 +138,8 @@ breaks_now core moves nodes =
     record { off = λ from before driven. record { made = before; left = nodes; all = refl; leads = driven.leads } }
 
 -- after some turns, among the next, of some more
-pub breaks_among : {a b c : Core} {ms ns : List Move} {xs ys : List ℕ} → (zs rest : List ℕ) → GoesOn a ms xs b ns → BreaksOff b ns ys c → zs ≡ xs ++ (ys ++ rest) → BreaksOff a ms zs c
+pub breaks_among : {a b c : Core} {ms ns : List Move} {xs ys : List ℕ} → (zs rest : List ℕ) → GoesOn a ms xs b ns → BreaksOff b ns ys c
+    → zs ≡ xs ++ (ys ++ rest) → BreaksOff a ms zs c
 breaks_among {a = a} {b = b} {c = c} {xs = xs} {ys = ys} zs rest first next is =
     record {
       off = λ from before driven.
@@ -130,7 +147,8 @@ breaks_among {a = a} {b = b} {c = c} {xs = xs} {ys = ys} zs rest first next is =
           record {
             made = broken.made;
             left = broken.left ++ rest;
-            all = ap (λ l. before ++ l) is ∙ sym (append_assoc before xs (ys ++ rest)) ∙ sym (append_assoc (before ++ xs) ys rest) ∙ ap (λ l. l ++ rest) broken.all ∙ append_assoc broken.made broken.left rest;
+            all = ap (λ l. before ++ l) is ∙ sym (append_assoc before xs (ys ++ rest)) ∙ sym (append_assoc (before ++ xs) ys rest)
+                ∙ ap (λ l. l ++ rest) broken.all ∙ append_assoc broken.made broken.left rest;
             leads = broken.leads;
           };
     }

@@ -22,14 +22,16 @@ use Rattle.rl_schedule.specs.Meaning.{Names, IsItemOf}
 use Rattle.rl_schedule.proofs.Named.{is_named, Differ, named_position}
 
 -- at the first place of a name stands a thing of that name
-place_named : {X : Type 0} (name : X → List ℕ) (word : List ℕ) (xs : List X) (i : ℕ) → position (is_named name word) xs ≡ Some i → (i < length xs) × (option_map_or name (slice_get xs i) [] ≡ word)
+place_named : {X : Type 0} (name : X → List ℕ) (word : List ℕ) (xs : List X) (i : ℕ) → position (is_named name word) xs ≡ Some i
+    → (i < length xs) × (option_map_or name (slice_get xs i) [] ≡ word)
 place_named name word [] i is = absurd (cc)
 place_named name word (x ∷ xs) i is =
     let found = position-Some (is_named name word) (x ∷ xs) i x is in
     (found.0, ap (λ o. option_map_or name o []) (slice_get-get_or (x ∷ xs) i x found.0) ∙ (bytes_eq-Decides (name (get_or (x ∷ xs) i x)) word).0 found.1)
 
 -- and a name that stands somewhere stands there first
-named_place : {X : Type 0} (name : X → List ℕ) (xs : List X) (i : ℕ) → Differ name xs → i < length xs → position (is_named name (option_map_or name (slice_get xs i) [])) xs ≡ Some i
+named_place : {X : Type 0} (name : X → List ℕ) (xs : List X) (i : ℕ) → Differ name xs → i < length xs
+    → position (is_named name (option_map_or name (slice_get xs i) [])) xs ≡ Some i
 named_place name xs i differ within =
     elim (slice_get_cases xs i).1 [
       | inl x ↦ named_position name (option_map_or name (slice_get xs i) []) xs i x.0 differ x.2 (sym (ap (λ o. option_map_or name o []) x.2))
@@ -46,25 +48,30 @@ box_at net name b is = let at = place_named (λ (x : SwitchBox). x.name) name ne
 abbrev IsNode : NetworkPlan → NamedNode → ℕ → Type 0
 IsNode net word n = (kind : NodeKind) × Names net word kind × (n ≡ node_number (plan_layout net) kind)
 
-by_train : (net : NetworkPlan) (name : List ℕ) (n : ℕ) (o : Option ℕ) → train_named net name ≡ o → option_map (λ t. node_number (plan_layout net) (nodes.Train (record { 0 = t }))) o ≡ Some n → IsNode net (record { role = roles.Train; name = name }) n
+by_train : (net : NetworkPlan) (name : List ℕ) (n : ℕ) (o : Option ℕ) → train_named net name ≡ o
+    → option_map (λ t. node_number (plan_layout net) (nodes.Train (record { 0 = t }))) o ≡ Some n → IsNode net (record { role = roles.Train; name = name }) n
 by_train net name n None e is = absurd (cc)
 by_train net name n (Some t) e is =
     let at = train_at net name t e in
     (nodes.Train (record { 0 = t }), (at.0, ap (λ m. record { role = roles.Train; name = m }) at.1), cc)
 
-by_track : (net : NetworkPlan) (name : List ℕ) (n : ℕ) (o : Option ℕ) → train_named net name ≡ o → option_map (λ t. node_number (plan_layout net) (nodes.Track (record { 0 = t }))) o ≡ Some n → IsNode net (record { role = roles.Track; name = name }) n
+by_track : (net : NetworkPlan) (name : List ℕ) (n : ℕ) (o : Option ℕ) → train_named net name ≡ o
+    → option_map (λ t. node_number (plan_layout net) (nodes.Track (record { 0 = t }))) o ≡ Some n → IsNode net (record { role = roles.Track; name = name }) n
 by_track net name n None e is = absurd (cc)
 by_track net name n (Some t) e is =
     let at = train_at net name t e in
     (nodes.Track (record { 0 = t }), (at.0, ap (λ m. record { role = roles.Track; name = m }) at.1), cc)
 
-by_box : (net : NetworkPlan) (name : List ℕ) (n : ℕ) (o : Option ℕ) → box_named net name ≡ o → option_map (λ b. node_number (plan_layout net) (nodes.Box (record { 0 = b }))) o ≡ Some n → IsNode net (record { role = roles.SwitchBox; name = name }) n
+by_box : (net : NetworkPlan) (name : List ℕ) (n : ℕ) (o : Option ℕ) → box_named net name ≡ o
+    → option_map (λ b. node_number (plan_layout net) (nodes.Box (record { 0 = b }))) o ≡ Some n → IsNode net (record { role = roles.SwitchBox; name = name }) n
 by_box net name n None e is = absurd (cc)
 by_box net name n (Some b) e is =
     let at = box_at net name b e in
     (nodes.Box (record { 0 = b }), (at.0, ap (λ m. record { role = roles.SwitchBox; name = m }) at.1), cc)
 
-by_machine : (net : NetworkPlan) (name : List ℕ) (n : ℕ) (o : Option ℕ) → box_named net name ≡ o → option_map (λ b. node_number (plan_layout net) (nodes.Machine (record { 0 = b }))) o ≡ Some n → IsNode net (record { role = roles.Machine; name = name }) n
+by_machine : (net : NetworkPlan) (name : List ℕ) (n : ℕ) (o : Option ℕ) → box_named net name ≡ o
+    → option_map (λ b. node_number (plan_layout net) (nodes.Machine (record { 0 = b }))) o ≡ Some n
+    → IsNode net (record { role = roles.Machine; name = name }) n
 by_machine net name n None e is = absurd (cc)
 by_machine net name n (Some b) e is =
     let at = box_at net name b e in
@@ -79,7 +86,8 @@ node_at net roles.Machine name n is = by_machine net name n (box_named net name)
 pub item_said : (net : NetworkPlan) (order : Order) (item : Item) → item_of net order ≡ Some item → IsItemOf net order item
 item_said net (Order.turns word count) item is = by (number_in net word.role word.name) refl is
   where
-    by : (o : Option ℕ) → number_in net word.role word.name ≡ o → option_map (λ n. Turn (record { 0 = n }) count) o ≡ Some item → IsItemOf net (Order.turns word count) item
+    by : (o : Option ℕ) → number_in net word.role word.name ≡ o → option_map (λ n. Turn (record { 0 = n }) count) o ≡ Some item
+        → IsItemOf net (Order.turns word count) item
     by None e is = absurd (cc)
     by (Some n) e is =
         let same : Turn (record { 0 = n }) count ≡ item = cc in
@@ -88,7 +96,8 @@ item_said net (Order.turns word count) item is = by (number_in net word.role wor
 item_said net (Order.rounds count) item is = let same : Round count ≡ item = cc in subst (IsItemOf net (Order.rounds count)) same refl
 
 -- the other way round
-at_node : (net : NetworkPlan) → IsNetwork net → (word : NamedNode) (kind : NodeKind) → Names net word kind → number_in net word.role word.name ≡ Some (node_number (plan_layout net) kind)
+at_node : (net : NetworkPlan) → IsNetwork net → (word : NamedNode) (kind : NodeKind) → Names net word kind
+    → number_in net word.role word.name ≡ Some (node_number (plan_layout net) kind)
 at_node net network word (nodes.Train t) names =
     rw (names.1, named_place (λ (x : Train). x.name) net.trains t.0 network.train_names names.0) refl
 at_node net network word (nodes.Track t) names =

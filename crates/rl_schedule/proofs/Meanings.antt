@@ -26,27 +26,34 @@ use Rattle.rl_schedule.proofs.Read.{item_read}
 line_no_order : (net : NetworkPlan) (items : List Item) (line : Line) → order_of line ≡ None → item_in net items line ≡ Err (refusals.Line (length items + 1))
 line_no_order net items line o = rw o refl
 
-line_no_item : (net : NetworkPlan) (items : List Item) (line : Line) (order : Order) → order_of line ≡ Some order → item_of net order ≡ None → item_in net items line ≡ Err (refusals.NoNode (length items + 1))
+line_no_item : (net : NetworkPlan) (items : List Item) (line : Line) (order : Order) → order_of line ≡ Some order → item_of net order ≡ None
+    → item_in net items line ≡ Err (refusals.NoNode (length items + 1))
 line_no_item net items line order o i = rw (o, i) refl
 
-line_over : (net : NetworkPlan) (items : List Item) (line : Line) (order : Order) (item : Item) → order_of line ≡ Some order → item_of net order ≡ Some item → MAX_TURNS < turns_together (nodes_of net) items + turn_count (nodes_of net) item → item_in net items line ≡ Err (refusals.TooMany (length items + 1))
+line_over : (net : NetworkPlan) (items : List Item) (line : Line) (order : Order) (item : Item) → order_of line ≡ Some order → item_of net order ≡ Some item
+    → MAX_TURNS < turns_together (nodes_of net) items + turn_count (nodes_of net) item → item_in net items line ≡ Err (refusals.TooMany (length items + 1))
 line_over net items line order item o i over =
-    let yes : nat_lt MAX_TURNS (turns_together (nodes_of net) items + turn_count (nodes_of net) item) ≡ true = lt-ltb MAX_TURNS (turns_together (nodes_of net) items + turn_count (nodes_of net) item) over in
+    let yes : nat_lt MAX_TURNS (turns_together (nodes_of net) items + turn_count (nodes_of net) item) ≡ true =
+    lt-ltb MAX_TURNS (turns_together (nodes_of net) items + turn_count (nodes_of net) item) over in
     rw (o, i, yes) refl
 
-line_item : (net : NetworkPlan) (items : List Item) (line : Line) (order : Order) (item : Item) → order_of line ≡ Some order → item_of net order ≡ Some item → turns_together (nodes_of net) items + turn_count (nodes_of net) item ≤ MAX_TURNS → item_in net items line ≡ Ok item
+line_item : (net : NetworkPlan) (items : List Item) (line : Line) (order : Order) (item : Item) → order_of line ≡ Some order → item_of net order ≡ Some item
+    → turns_together (nodes_of net) items + turn_count (nodes_of net) item ≤ MAX_TURNS → item_in net items line ≡ Ok item
 line_item net items line order item o i few =
-    let no : nat_lt MAX_TURNS (turns_together (nodes_of net) items + turn_count (nodes_of net) item) ≡ false = le-ltb MAX_TURNS (turns_together (nodes_of net) items + turn_count (nodes_of net) item) few in
+    let no : nat_lt MAX_TURNS (turns_together (nodes_of net) items + turn_count (nodes_of net) item) ≡ false =
+    le-ltb MAX_TURNS (turns_together (nodes_of net) items + turn_count (nodes_of net) item) few in
     rw (o, i, no) refl
 
-refusal_read : (net : NetworkPlan) (items : List Item) (line : Line) (lines : List Line) (refusal : ScheduleRefusal) → item_in net items line ≡ Err refusal → items_after net items (line ∷ lines) ≡ Err refusal
+refusal_read : (net : NetworkPlan) (items : List Item) (line : Line) (lines : List Line) (refusal : ScheduleRefusal) → item_in net items line ≡ Err refusal
+    → items_after net items (line ∷ lines) ≡ Err refusal
 refusal_read net items line lines refusal is = rw (is, items_after) refl
 
 -- lines that say items are read to them
 abbrev SayAll : NetworkPlan → List Line → List Item → Type 0
 SayAll net lines items = (i : ℕ) (item : Item) → slice_get items i ≡ Some item → (line : Line) × (slice_get lines i ≡ Some line) × Says net line item
 
-reads_on : (net : NetworkPlan) → IsNetwork net → (done : List Item) (lines : List Line) (more : List Item) → SayAll net lines more → turns_together (nodes_of net) (done ++ more) ≤ MAX_TURNS → items_after net done lines ≡ items_after net (done ++ more) (drop (length more) lines)
+reads_on : (net : NetworkPlan) → IsNetwork net → (done : List Item) (lines : List Line) (more : List Item) → SayAll net lines more
+    → turns_together (nodes_of net) (done ++ more) ≤ MAX_TURNS → items_after net done lines ≡ items_after net (done ++ more) (drop (length more) lines)
 reads_on net network done lines [] says few = rw (append-nil done) refl
 reads_on net network done [] (item ∷ more) says few = absurd (let s = says 0 item refl in let none : None ≡ Some s.0 = s.1 in cc)
 reads_on net network done (line ∷ lines) (item ∷ more) says few =
@@ -67,14 +74,18 @@ line_at : (front : List Line) (line : Line) (lines : List Line) → slice_get (f
 line_at [] line lines = refl
 line_at (x ∷ front) line lines = line_at front line lines
 
-stands_after : (net : NetworkPlan) (text : List ℕ) (front lines : List Line) (line : Line) (items : List Item) → BeginsWith net text items → lines_of text ≡ front ++ (line ∷ lines) → length front ≡ length items → IsLineAfter net text (length items + 1) line items
+stands_after : (net : NetworkPlan) (text : List ℕ) (front lines : List Line) (line : Line) (items : List Item) → BeginsWith net text items
+    → lines_of text ≡ front ++ (line ∷ lines) → length front ≡ length items → IsLineAfter net text (length items + 1) line items
 stands_after net text front lines line items begins is size =
     record { number = refl; stands = rw (is, ← size) (line_at front line lines); before = begins }
 
-begins_on : (net : NetworkPlan) (text : List ℕ) (front lines : List Line) (line : Line) (items : List Item) (item : Item) → BeginsWith net text items → lines_of text ≡ front ++ (line ∷ lines) → length front ≡ length items → Says net line item → turns_together (nodes_of net) items + turn_count (nodes_of net) item ≤ MAX_TURNS → BeginsWith net text (items ++ item ∷ [])
+begins_on : (net : NetworkPlan) (text : List ℕ) (front lines : List Line) (line : Line) (items : List Item) (item : Item) → BeginsWith net text items
+    → lines_of text ≡ front ++ (line ∷ lines) → length front ≡ length items → Says net line item
+    → turns_together (nodes_of net) items + turn_count (nodes_of net) item ≤ MAX_TURNS → BeginsWith net text (items ++ item ∷ [])
 begins_on net text front lines line items item begins is size says few =
     record {
-      says = each_push (λ i x. (l : Line) × (slice_get (lines_of text) i ≡ Some l) × Says net l x) items item begins.says (line, (stands_after net text front lines line items begins is size).stands, says);
+      says = each_push (λ i x. (l : Line) × (slice_get (lines_of text) i ≡ Some l) × Says net l x) items item begins.says
+          (line, (stands_after net text front lines line items begins is size).stands, says);
       few = omega (arith, few, sum_by_push (turn_count (nodes_of net)) items item);
     }
 
@@ -83,21 +94,25 @@ abbrev GoesOn : NetworkPlan → List ℕ → List Item → List Line → Type 0
 GoesOn net text items lines =
     (item : Item) → BeginsWith net text (items ++ item ∷ []) → Means net text (items_after net (items ++ item ∷ []) lines)
 
-means_after : (net : NetworkPlan) → IsNetwork net → (text : List ℕ) → length text ≤ MAX_SCHEDULE_BYTES → (front lines : List Line) (items : List Item) → BeginsWith net text items → lines_of text ≡ front ++ lines → length front ≡ length items → Means net text (items_after net items lines)
+means_after : (net : NetworkPlan) → IsNetwork net → (text : List ℕ) → length text ≤ MAX_SCHEDULE_BYTES → (front lines : List Line) (items : List Item)
+    → BeginsWith net text items → lines_of text ≡ front ++ lines → length front ≡ length items → Means net text (items_after net items lines)
 means_after net network text short front [] items begins is size =
     (short, begins, sym size ∙ ap length (sym (append-nil front)) ∙ ap length (sym is))
 means_after net network text short front (line ∷ lines) items begins is size =
     by_order
     (λ item begins_next.
     let next : lines_of text ≡ (front ++ line ∷ []) ++ lines = is ∙ sym (append_assoc front (line ∷ []) lines) in
-    let size_next : length (front ++ line ∷ []) ≡ length (items ++ item ∷ []) = omega (arith, size, length-append front (line ∷ []), length-append items (item ∷ [])) in
+    let size_next : length (front ++ line ∷ []) ≡ length (items ++ item ∷ []) =
+    omega (arith, size, length-append front (line ∷ []), length-append items (item ∷ [])) in
     means_after net network text short (front ++ line ∷ []) lines (items ++ item ∷ []) begins_next next size_next)
     (order_of line) refl
   where
-    refused : (refusal : ScheduleRefusal) → item_in net items line ≡ Err refusal → IsFirstRefusal net text refusal → Means net text (items_after net items (line ∷ lines))
+    refused : (refusal : ScheduleRefusal) → item_in net items line ≡ Err refusal → IsFirstRefusal net text refusal
+        → Means net text (items_after net items (line ∷ lines))
     refused refusal e first = subst (Means net text) (sym (refusal_read net items line lines refusal e)) (inr (short, first))
 
-    by_count : GoesOn net text items lines → (order : Order) (item : Item) → order_of line ≡ Some order → item_of net order ≡ Some item → Means net text (items_after net items (line ∷ lines))
+    by_count : GoesOn net text items lines → (order : Order) (item : Item) → order_of line ≡ Some order → item_of net order ≡ Some item
+        → Means net text (items_after net items (line ∷ lines))
     by_count go order item o i =
         let says : Says net line item = (order, order_given line order o, item_said net order item i) in
         elim (cases_lt MAX_TURNS (turns_together (nodes_of net) items + turn_count (nodes_of net) item)) [
@@ -109,7 +124,8 @@ means_after net network text short front (line ∷ lines) items begins is size =
               (go item (begins_on net text front lines line items item begins is size says few))
         ]
 
-    by_item : GoesOn net text items lines → (order : Order) → order_of line ≡ Some order → (o : Option Item) → item_of net order ≡ o → Means net text (items_after net items (line ∷ lines))
+    by_item : GoesOn net text items lines → (order : Order) → order_of line ≡ Some order → (o : Option Item) → item_of net order ≡ o
+        → Means net text (items_after net items (line ∷ lines))
     by_item go order o None i =
         refused (refusals.NoNode (length items + 1)) (line_no_item net items line order o i)
         (record {
@@ -148,7 +164,8 @@ pub means : (net : NetworkPlan) → IsNetwork net → (text : List ℕ) → Mean
 means net network text =
     elim (cases_lt MAX_SCHEDULE_BYTES (length text)) [
       | inl long ↦ subst (Means net text) (sym (long_read net text long)) (inl (long, refl))
-      | inr short ↦ subst (Means net text) (sym (short_read net text short)) (means_after net network text short [] (lines_of text) [] (begins_none net text) refl refl)
+      | inr short ↦ subst (Means net text) (sym (short_read net text short))
+          (means_after net network text short [] (lines_of text) [] (begins_none net text) refl refl)
     ]
 
 -- and what is so of the text is what it answers
@@ -158,7 +175,8 @@ drop_at (x ∷ lines) zero line at = (lines, let same : x ≡ line = cc in ap (�
 drop_at (x ∷ lines) (suc k) line at = drop_at lines k line at
 
 -- the refusal that is so of the line
-refused_in : (net : NetworkPlan) → IsNetwork net → (line : Line) (items : List Item) (refusal : ScheduleRefusal) → line_of refusal ≡ length items + 1 → IsRefusedBy net line items refusal → item_in net items line ≡ Err refusal
+refused_in : (net : NetworkPlan) → IsNetwork net → (line : Line) (items : List Item) (refusal : ScheduleRefusal) → line_of refusal ≡ length items + 1
+    → IsRefusedBy net line items refusal → item_in net items line ≡ Err refusal
 refused_in net network line items (refusals.Line n) number none = by (order_of line) refl
   where
     by : (o : Option Order) → order_of line ≡ o → item_in net items line ≡ Err (refusals.Line n)
@@ -174,16 +192,19 @@ refused_in net network line items (refusals.TooMany n) number holds =
     ∙ ap (λ m. Err (refusals.TooMany m)) (sym number)
 refused_in net network line items refusals.NoMemory number holds = absurd holds
 
-read_whole : (net : NetworkPlan) → IsNetwork net → (text : List ℕ) (items : List Item) → BeginsWith net text items → items_after net [] (lines_of text) ≡ items_after net items (drop (length items) (lines_of text))
+read_whole : (net : NetworkPlan) → IsNetwork net → (text : List ℕ) (items : List Item) → BeginsWith net text items
+    → items_after net [] (lines_of text) ≡ items_after net items (drop (length items) (lines_of text))
 read_whole net network text items begins = reads_on net network [] (lines_of text) items begins.says begins.few
 
-first_refused : (net : NetworkPlan) → IsNetwork net → (text : List ℕ) (refusal : ScheduleRefusal) → IsFirstRefusal net text refusal → items_after net [] (lines_of text) ≡ Err refusal
+first_refused : (net : NetworkPlan) → IsNetwork net → (text : List ℕ) (refusal : ScheduleRefusal) → IsFirstRefusal net text refusal
+    → items_after net [] (lines_of text) ≡ Err refusal
 first_refused net network text refusal first =
     let rest = drop_at (lines_of text) (length first.items) first.line first.at.stands in
     read_whole net network text first.items first.at.before ∙ ap (items_after net first.items) rest.1
     ∙ refusal_read net first.items first.line rest.0 refusal (refused_in net network first.line first.items refusal first.at.number first.holds)
 
-pub only : (net : NetworkPlan) → IsNetwork net → (text : List ℕ) (other : Result (List Item) ScheduleRefusal) → Means net text other → schedule_of net text ≡ other
+pub only : (net : NetworkPlan) → IsNetwork net → (text : List ℕ) (other : Result (List Item) ScheduleRefusal) → Means net text other
+    → schedule_of net text ≡ other
 only net network text (Ok items) means =
     let within : length (lines_of text) ≤ length items = omega (arith, means.2) in
     let end : drop (length items) (lines_of text) ≡ [] = drop_of_length-le (lines_of text) within in
@@ -195,14 +216,16 @@ only net network text (Err refusal) means =
     ]
 
 -- the same of an answer that is that of the search, unless memory ran out
-pub means_unless : (net : NetworkPlan) → IsNetwork net → (text : List ℕ) (answer : Result (List Item) ScheduleRefusal) → UnlessMemory answer (answer ≡ schedule_of net text) → UnlessMemory answer (Means net text answer)
+pub means_unless : (net : NetworkPlan) → IsNetwork net → (text : List ℕ) (answer : Result (List Item) ScheduleRefusal)
+    → UnlessMemory answer (answer ≡ schedule_of net text) → UnlessMemory answer (Means net text answer)
 means_unless net network text (Ok items) is = subst (Means net text) (sym is) (means net network text)
 means_unless net network text (Err (refusals.Line n)) is = subst (Means net text) (sym is) (means net network text)
 means_unless net network text (Err (refusals.NoNode n)) is = subst (Means net text) (sym is) (means net network text)
 means_unless net network text (Err (refusals.TooMany n)) is = subst (Means net text) (sym is) (means net network text)
 means_unless net network text (Err refusals.NoMemory) is = tt
 
-pub only_unless : (net : NetworkPlan) → IsNetwork net → (text : List ℕ) (answer other : Result (List Item) ScheduleRefusal) → UnlessMemory answer (answer ≡ schedule_of net text) → Means net text other → UnlessMemory answer (answer ≡ other)
+pub only_unless : (net : NetworkPlan) → IsNetwork net → (text : List ℕ) (answer other : Result (List Item) ScheduleRefusal)
+    → UnlessMemory answer (answer ≡ schedule_of net text) → Means net text other → UnlessMemory answer (answer ≡ other)
 only_unless net network text (Ok items) other is means = is ∙ only net network text other means
 only_unless net network text (Err (refusals.Line n)) other is means = is ∙ only net network text other means
 only_unless net network text (Err (refusals.NoNode n)) other is means = is ∙ only net network text other means
@@ -210,7 +233,8 @@ only_unless net network text (Err (refusals.TooMany n)) other is means = is ∙ 
 only_unless net network text (Err refusals.NoMemory) other is means = tt
 
 -- what was read of the lines is the answer to a text that is short enough
-pub read_unless : (net : NetworkPlan) (text : List ℕ) (answer : Result (List Item) ScheduleRefusal) → length text ≤ MAX_SCHEDULE_BYTES → UnlessMemory answer (answer ≡ items_after net [] (lines_of text)) → UnlessMemory answer (answer ≡ schedule_of net text)
+pub read_unless : (net : NetworkPlan) (text : List ℕ) (answer : Result (List Item) ScheduleRefusal) → length text ≤ MAX_SCHEDULE_BYTES
+    → UnlessMemory answer (answer ≡ items_after net [] (lines_of text)) → UnlessMemory answer (answer ≡ schedule_of net text)
 read_unless net text (Ok items) short is = is ∙ sym (short_read net text short)
 read_unless net text (Err (refusals.Line n)) short is = is ∙ sym (short_read net text short)
 read_unless net text (Err (refusals.NoNode n)) short is = is ∙ sym (short_read net text short)

@@ -15,14 +15,17 @@ abbrev pub Differ : {X : Type 0} → (X → List ℕ) → List X → Type 0
 Differ {X} name xs = (i j : ℕ) (x y : X) → slice_get xs i ≡ Some x → slice_get xs j ≡ Some y → name x ≡ name y → i ≡ j
 
 -- the thing at the first place has the name
-first_named : {X : Type 0} (name : X → List ℕ) (word : List ℕ) (xs : List X) (d : X) → position_or_len (is_named name word) xs < length xs → name (get_or xs (position_or_len (is_named name word) xs) d) ≡ word
+first_named : {X : Type 0} (name : X → List ℕ) (word : List ℕ) (xs : List X) (d : X) → position_or_len (is_named name word) xs < length xs
+    → name (get_or xs (position_or_len (is_named name word) xs) d) ≡ word
 first_named name word xs d within =
     let at = position_or_len (is_named name word) xs in
-    let passes : is_named name word (get_or xs at d) ≡ true = not-false (is_named name word (get_or xs at d)) (prefix_len_stops (λ x. not (is_named name word x)) xs d within) in
+    let passes : is_named name word (get_or xs at d) ≡ true =
+    not-false (is_named name word (get_or xs at d)) (prefix_len_stops (λ x. not (is_named name word x)) xs d within) in
     (bytes_eq-Decides (name (get_or xs at d)) word).0 passes
 
 -- a thing of the name stands at the first place or after it
-first_no_later : {X : Type 0} (name : X → List ℕ) (word : List ℕ) (xs : List X) (i : ℕ) (x : X) → slice_get xs i ≡ Some x → name x ≡ word → position_or_len (is_named name word) xs ≤ i
+first_no_later : {X : Type 0} (name : X → List ℕ) (word : List ℕ) (xs : List X) (i : ℕ) (x : X) → slice_get xs i ≡ Some x → name x ≡ word
+    → position_or_len (is_named name word) xs ≤ i
 first_no_later name word xs i x at named =
     elim (cases_lt i (position_or_len (is_named name word) xs)) [
       | inl before ↦
@@ -33,9 +36,11 @@ first_no_later name word xs i x at named =
     ]
 
 position_at : {X : Type 0} (p : X → Bool) (xs : List X) (i : ℕ) → position_or_len p xs ≡ i → i < length xs → position p xs ≡ Some i
-position_at p xs i is within = let yes : ltb (position_or_len p xs) (length xs) ≡ true = lt-ltb (position_or_len p xs) (length xs) (rw is within) in rw (yes, is) refl
+position_at p xs i is within = let yes : ltb (position_or_len p xs) (length xs) ≡ true = lt-ltb (position_or_len p xs) (length xs) (rw is within) in
+    rw (yes, is) refl
 
-pub named_position : {X : Type 0} (name : X → List ℕ) (word : List ℕ) (xs : List X) (i : ℕ) (x : X) → Differ name xs → slice_get xs i ≡ Some x → name x ≡ word → position (is_named name word) xs ≡ Some i
+pub named_position : {X : Type 0} (name : X → List ℕ) (word : List ℕ) (xs : List X) (i : ℕ) (x : X) → Differ name xs → slice_get xs i ≡ Some x → name x ≡ word
+    → position (is_named name word) xs ≡ Some i
 named_position name word xs i x differ at named =
     let within : i < length xs = slice_get_within xs i x at in
     let first = position_or_len (is_named name word) xs in
@@ -44,7 +49,8 @@ named_position name word xs i x differ at named =
     let same : first ≡ i = differ first i (get_or xs first x) x (slice_get-get_or xs first x there) at (first_named name word xs x there ∙ sym named) in
     position_at (is_named name word) xs i same within
 
-pub unnamed_position : {X : Type 0} (name : X → List ℕ) (word : List ℕ) (xs : List X) → ((i : ℕ) (x : X) → slice_get xs i ≡ Some x → name x ≢ word) → position (is_named name word) xs ≡ None
+pub unnamed_position : {X : Type 0} (name : X → List ℕ) (word : List ℕ) (xs : List X) → ((i : ℕ) (x : X) → slice_get xs i ≡ Some x → name x ≢ word)
+    → position (is_named name word) xs ≡ None
 unnamed_position name word xs none =
     let first = position_or_len (is_named name word) xs in
     elim (cases_lt first (length xs)) [
@@ -57,7 +63,9 @@ unnamed_position name word xs none =
     ]
 
 -- the answer of a look-up is that place
-pub looked_up : {X : Type 0} (name : X → List ℕ) (word : List ℕ) (xs : List X) (o : Option ℕ) → Differ name xs → ((i : ℕ) → o ≡ Some i → (i < length xs) × (option_map_or name (slice_get xs i) [] ≡ word)) → (o ≡ None → (i : ℕ) → i < length xs → option_map_or name (slice_get xs i) [] ≢ word) → o ≡ position (is_named name word) xs
+pub looked_up : {X : Type 0} (name : X → List ℕ) (word : List ℕ) (xs : List X) (o : Option ℕ) → Differ name xs
+    → ((i : ℕ) → o ≡ Some i → (i < length xs) × (option_map_or name (slice_get xs i) [] ≡ word))
+    → (o ≡ None → (i : ℕ) → i < length xs → option_map_or name (slice_get xs i) [] ≢ word) → o ≡ position (is_named name word) xs
 looked_up name word xs (Some i) differ some none =
     let there = some i refl in
     elim (slice_get_cases xs i).1 [
@@ -68,10 +76,14 @@ looked_up name word xs None differ some none =
     sym (unnamed_position name word xs (λ i x at is. none refl i (slice_get_within xs i x at) (ap (λ o. option_map_or name o []) at ∙ is)))
 
 -- what a look-up promises, of the number that it gives
-pub some_found : {X Id : Type 0} (number : Id → ℕ) (name : X → List ℕ) (word : List ℕ) (xs : List X) (o : Option Id) → IfSome o (λ id. (number id < length xs) × (option_map_or name (slice_get xs (number id)) [] ≡ word)) → (i : ℕ) → option_map number o ≡ Some i → (i < length xs) × (option_map_or name (slice_get xs i) [] ≡ word)
+pub some_found : {X Id : Type 0} (number : Id → ℕ) (name : X → List ℕ) (word : List ℕ) (xs : List X) (o : Option Id)
+    → IfSome o (λ id. (number id < length xs) × (option_map_or name (slice_get xs (number id)) [] ≡ word)) → (i : ℕ) → option_map number o ≡ Some i
+    → (i < length xs) × (option_map_or name (slice_get xs i) [] ≡ word)
 some_found number name word xs (Some id) found i is = let same : number id ≡ i = cc in rw (← same) found
 some_found number name word xs None found i is = absurd (cc)
 
-pub none_found : {X Id : Type 0} (number : Id → ℕ) (name : X → List ℕ) (word : List ℕ) (xs : List X) (o : Option Id) → IfNone o ((i : ℕ) → i < length xs → option_map_or name (slice_get xs i) [] ≢ word) → option_map number o ≡ None → (i : ℕ) → i < length xs → option_map_or name (slice_get xs i) [] ≢ word
+pub none_found : {X Id : Type 0} (number : Id → ℕ) (name : X → List ℕ) (word : List ℕ) (xs : List X) (o : Option Id)
+    → IfNone o ((i : ℕ) → i < length xs → option_map_or name (slice_get xs i) [] ≢ word) → option_map number o ≡ None → (i : ℕ) → i < length xs
+    → option_map_or name (slice_get xs i) [] ≢ word
 none_found number name word xs None nowhere is = nowhere
 none_found number name word xs (Some id) nowhere is = absurd (cc)

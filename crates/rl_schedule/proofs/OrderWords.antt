@@ -26,7 +26,8 @@ test_of a b = by (bytes_eq a b) refl
     by false e = inr e
 
 -- numbers
-number_by : (some digits leads fits : Bool) (v n : ℕ) → (if some && digits && not leads && fits then Some v else None) ≡ Some n → (some ≡ true) × (digits ≡ true) × (leads ≡ false) × (fits ≡ true) × (v ≡ n)
+number_by : (some digits leads fits : Bool) (v n : ℕ) → (if some && digits && not leads && fits then Some v else None) ≡ Some n
+    → (some ≡ true) × (digits ≡ true) × (leads ≡ false) × (fits ≡ true) × (v ≡ n)
 number_by true true false true v n e = (refl, refl, refl, refl, cc)
 number_by true true false false v n e = absurd (cc)
 number_by true true true fits v n e = absurd (cc)
@@ -36,7 +37,8 @@ number_by false digits leads fits v n e = absurd (cc)
 number_is : (word : List ℕ) (n : ℕ) → number_of word ≡ Some n → word ≡ decimal n
 unfolding number_of
 number_is word n is =
-    let all = number_by (nat_lt 0 (length word)) (list_all is_ascii_digit word) (has_leading_zero word) (nat_lt (digits_value 10 word) (2 ^ 64)) (digits_value 10 word) n is in
+    let all = number_by (nat_lt 0 (length word)) (list_all is_ascii_digit word) (has_leading_zero word) (nat_lt (digits_value 10 word) (2 ^ 64))
+    (digits_value 10 word) n is in
     let some : 0 < length word = grind (arith, nat_tests, all.0) in
     let fits : digits_value 10 word < 2 ^ 64 = grind (arith, nat_tests, all.3) in
     digits-decimal word all.1 all.2 some fits ∙ ap decimal all.4
@@ -56,7 +58,8 @@ range_in n some few = grind (arith, nat_tests)
 count_is : (word : List ℕ) (n : ℕ) → count_of word ≡ Some n → (word ≡ decimal n) × IsCount n
 count_is word n is = by (number_of word) refl is
   where
-    by : (o : Option ℕ) → number_of word ≡ o → option_and_then (λ m. if nat_le 1 m && nat_le m 1000000 then Some m else None) o ≡ Some n → (word ≡ decimal n) × IsCount n
+    by : (o : Option ℕ) → number_of word ≡ o → option_and_then (λ m. if nat_le 1 m && nat_le m 1000000 then Some m else None) o ≡ Some n
+        → (word ≡ decimal n) × IsCount n
     by None e is = absurd (cc)
     by (Some m) e is =
         let range = in_range m n is in
@@ -106,14 +109,16 @@ has_colon word named =
 node_is : (word : List ℕ) (node : NamedNode) → node_of word ≡ Some node → (word ≡ node_word node) × IsTrue (is_name node.name)
 node_is word node is = by (is_name (after_first is_colon word)) refl (role_of (before_first is_colon word)) refl
   where
-    by : (t : Bool) → is_name (after_first is_colon word) ≡ t → (o : Option Role) → role_of (before_first is_colon word) ≡ o → (word ≡ node_word node) × IsTrue (is_name node.name)
+    by : (t : Bool) → is_name (after_first is_colon word) ≡ t → (o : Option Role) → role_of (before_first is_colon word) ≡ o
+        → (word ≡ node_word node) × IsTrue (is_name node.name)
     by false e o r = let none : None ≡ Some node = rw e at is in absurd (cc)
     by true e None r = let none : None ≡ Some node = rw (e, r) at is in absurd (cc)
     by true e (Some role) r =
         let same : Some (record { role = role; name = after_first is_colon word }) ≡ Some node = rw (e, r) at is in
         let node_same : record { role = role; name = after_first is_colon word } ≡ node = cc in
         let within = has_colon word e in
-        let at : is_colon (get_or word (position_or_len is_colon word) 0) ≡ true = not-false (is_colon (get_or word (position_or_len is_colon word) 0)) (prefix_len_stops (λ x. not (is_colon x)) word 0 within) in
+        let at : is_colon (get_or word (position_or_len is_colon word) 0) ≡ true =
+        not-false (is_colon (get_or word (position_or_len is_colon word) 0)) (prefix_len_stops (λ x. not (is_colon x)) word 0 within) in
         let colon : get_or word (position_or_len is_colon word) 0 ≡ 58 = grind (arith, nat_tests) in
         let split : word ≡ before_first is_colon word ++ (58 ∷ after_first is_colon word) = rw colon at (split_at_first is_colon word 0 within) in
         rw (← node_same) (split ∙ ap (λ l. l ++ (58 ∷ after_first is_colon word)) (role_is (before_first is_colon word) role r), e)
@@ -134,10 +139,12 @@ is_node : (node : NamedNode) → IsTrue (is_name node.name) → node_of (node_wo
 is_node node named = rw (after_colon node.role node.name, before_colon node.role node.name, named, is_role node.role) refl
 
 -- turns of a node
-turns_are : (word : List ℕ) (count : ℕ) (order : Order) → turns_order word (Some count) ≡ Some order → (node : NamedNode) × (word ≡ node_word node) × IsTrue (is_name node.name) × (order ≡ Order.turns node count)
+turns_are : (word : List ℕ) (count : ℕ) (order : Order) → turns_order word (Some count) ≡ Some order
+    → (node : NamedNode) × (word ≡ node_word node) × IsTrue (is_name node.name) × (order ≡ Order.turns node count)
 turns_are word count order is = by (node_of word) refl is
   where
-    by : (o : Option NamedNode) → node_of word ≡ o → option_and_then (λ n. option_map (λ c. Order.turns n c) (Some count)) o ≡ Some order → (node : NamedNode) × (word ≡ node_word node) × IsTrue (is_name node.name) × (order ≡ Order.turns node count)
+    by : (o : Option NamedNode) → node_of word ≡ o → option_and_then (λ n. option_map (λ c. Order.turns n c) (Some count)) o ≡ Some order
+        → (node : NamedNode) × (word ≡ node_word node) × IsTrue (is_name node.name) × (order ≡ Order.turns node count)
     by None e is = absurd (cc)
     by (Some node) e is = let named = node_is word node e in (node, named.0, named.1, cc)
 
@@ -149,7 +156,8 @@ no_count word = by (node_of word)
     by (Some node) = refl
 
 -- two words
-turn_of_one : (first second : List ℕ) (node : NamedNode) (order : Order) → first ≡ codes "turn" → second ≡ node_word node → IsTrue (is_name node.name) → order ≡ Order.turns node 1 → IsOrder order × AreWordsOf order (first ∷ second ∷ [])
+turn_of_one : (first second : List ℕ) (node : NamedNode) (order : Order) → first ≡ codes "turn" → second ≡ node_word node → IsTrue (is_name node.name)
+    → order ≡ Order.turns node 1 → IsOrder order × AreWordsOf order (first ∷ second ∷ [])
 turn_of_one first second node order f s named is = rw (is, f, s) ((named, record { some = lit≤ tt; few = lit≤ tt }), inr (refl, refl))
 
 two_are : (first second : List ℕ) (order : Order) → order_of_two first second ≡ Some order → IsOrder order × AreWordsOf order (first ∷ second ∷ [])
@@ -165,7 +173,8 @@ two_are first second order is =
           ]
     ]
   where
-    rounds : first ≡ codes "round" → (o : Option ℕ) → count_of second ≡ o → option_map Order.rounds o ≡ Some order → IsOrder order × AreWordsOf order (first ∷ second ∷ [])
+    rounds : first ≡ codes "round" → (o : Option ℕ) → count_of second ≡ o → option_map Order.rounds o ≡ Some order
+        → IsOrder order × AreWordsOf order (first ∷ second ∷ [])
     rounds e None c is = absurd (cc)
     rounds e (Some n) c is =
         let count = count_is second n c in
@@ -173,17 +182,20 @@ two_are first second order is =
         rw same (count.1, rw (e, count.0) refl)
 
 -- three words
-turns_of_three : (first second third : List ℕ) (node : NamedNode) (n : ℕ) (order : Order) → first ≡ codes "turn" → second ≡ node_word node → third ≡ decimal n → IsTrue (is_name node.name) → IsCount n → order ≡ Order.turns node n → IsOrder order × AreWordsOf order (first ∷ second ∷ third ∷ [])
+turns_of_three : (first second third : List ℕ) (node : NamedNode) (n : ℕ) (order : Order) → first ≡ codes "turn" → second ≡ node_word node → third ≡ decimal n
+    → IsTrue (is_name node.name) → IsCount n → order ≡ Order.turns node n → IsOrder order × AreWordsOf order (first ∷ second ∷ third ∷ [])
 turns_of_three first second third node n order f s t named count is = rw (is, f, s, t) ((named, count), inl refl)
 
-three_are : (first second third : List ℕ) (order : Order) → order_of_three first second third ≡ Some order → IsOrder order × AreWordsOf order (first ∷ second ∷ third ∷ [])
+three_are : (first second third : List ℕ) (order : Order) → order_of_three first second third ≡ Some order
+    → IsOrder order × AreWordsOf order (first ∷ second ∷ third ∷ [])
 three_are first second third order is =
     elim (test_of first (codes "turn")) [
       | inl t ↦ counted t.1 (count_of third) refl (rw t.0 at is)
       | inr f ↦ let none : None ≡ Some order = rw f at is in absurd (cc)
     ]
   where
-    counted : first ≡ codes "turn" → (o : Option ℕ) → count_of third ≡ o → turns_order second o ≡ Some order → IsOrder order × AreWordsOf order (first ∷ second ∷ third ∷ [])
+    counted : first ≡ codes "turn" → (o : Option ℕ) → count_of third ≡ o → turns_order second o ≡ Some order
+        → IsOrder order × AreWordsOf order (first ∷ second ∷ third ∷ [])
     counted e None c is = let none : None ≡ Some order = sym (no_count second) ∙ is in absurd (cc)
     counted e (Some n) c is =
         let count = count_is third n c in

@@ -58,14 +58,16 @@ length_repeat xs zero = omega arith
 length_repeat xs (suc n) = omega (arith, length-append xs (repeat n xs), length_repeat xs n)
 
 -- the turns of the items up to one, and with that
-pub turns_more : (nodes : ℕ) (items : List Item) (i : ℕ) (item : Item) → slice_get items i ≡ Some item → turns_of nodes (take i items) ++ turns_in nodes item ≡ turns_of nodes (take (i + 1) items)
+pub turns_more : (nodes : ℕ) (items : List Item) (i : ℕ) (item : Item) → slice_get items i ≡ Some item
+    → turns_of nodes (take i items) ++ turns_in nodes item ≡ turns_of nodes (take (i + 1) items)
 turns_more nodes items i item at =
     let within : i < length items = slice_get_within items i item at in
     let e : take (i + 1) items ≡ take i items ++ item ∷ [] = rw (take_more items i item within, get_or_from_slice_get items i item item at) refl in
     rw e (flat_map_more (turns_in nodes) [] (take i items) item)
 
 -- and of those behind it
-pub turns_next : (nodes : ℕ) (items : List Item) (i : ℕ) (item : Item) → slice_get items i ≡ Some item → turns_of nodes items ≡ turns_of nodes (take i items) ++ (turns_in nodes item ++ turns_of nodes (drop (i + 1) items))
+pub turns_next : (nodes : ℕ) (items : List Item) (i : ℕ) (item : Item) → slice_get items i ≡ Some item
+    → turns_of nodes items ≡ turns_of nodes (take i items) ++ (turns_in nodes item ++ turns_of nodes (drop (i + 1) items))
 turns_next nodes items i item at =
     ap (turns_of nodes) (sym (take-append-drop (i + 1) items)) ∙ flat_map-append (turns_in nodes) (take (i + 1) items) (drop (i + 1) items)
     ∙ ap (λ l. l ++ turns_of nodes (drop (i + 1) items)) (sym (turns_more nodes items i item at))
@@ -79,10 +81,12 @@ length_in nodes (Round count) = length_repeat (range_with_len 0 nodes) count ∙
 pub length_turns : (nodes : ℕ) (items : List Item) → length (turns_of nodes items) ≡ turns_together nodes items
 length_turns nodes [] = refl
 length_turns nodes (item ∷ items) =
-    length-append (turns_in nodes item) (turns_of nodes items) ∙ (omega (arith, length_in nodes item, length_turns nodes items, sum_by-cons (turn_count nodes) item items))
+    length-append (turns_in nodes item) (turns_of nodes items)
+    ∙ (omega (arith, length_in nodes item, length_turns nodes items, sum_by-cons (turn_count nodes) item items))
 
 -- with those of an item among them, they are no more than all
-pub turns_within : (nodes : ℕ) (items : List Item) (i : ℕ) (item : Item) → slice_get items i ≡ Some item → length (turns_of nodes (take i items)) + turn_count nodes item ≤ turns_together nodes items
+pub turns_within : (nodes : ℕ) (items : List Item) (i : ℕ) (item : Item) → slice_get items i ≡ Some item
+    → length (turns_of nodes (take i items)) + turn_count nodes item ≤ turns_together nodes items
 turns_within nodes items i item at =
     let within : i < length items = slice_get_within items i item at in
     let same = get_or_from_slice_get items i item item at in

@@ -21,7 +21,8 @@ use Rattle.rl_schedule.proofs.Driving.{events_turned}
 use Rattle.rl_schedule.proofs.Pieces.{length_turns}
 
 -- so many turns make so many events at most, and so many moves
-events_driven : (tables : Tables) (tries : ℕ) (d : Drive) (nodes : List ℕ) → length (fold (turn_of tables tries) d nodes).events ≤ length d.events + length nodes
+events_driven : (tables : Tables) (tries : ℕ) (d : Drive) (nodes : List ℕ)
+    → length (fold (turn_of tables tries) d nodes).events ≤ length d.events + length nodes
 events_driven tables tries d [] = omega arith
 events_driven tables tries d (n ∷ nodes) =
     omega (arith, events_driven tables tries (turn_of tables tries d n) nodes, events_turned tables tries d n)
@@ -42,7 +43,8 @@ pub record FromStart (tables : Tables) (tries : ℕ) (nodes : List ℕ) (moves :
   pub minds : AreMindsAfter tables tries (driven tables tries nodes).events core.minds
   pub few : length moves ≤ length nodes
 
-pub from_start : (first core : Core) (nodes : List ℕ) (moves : List Move) → LeadsTo start_drive first → IsDriven first nodes moves core → FromStart first.line first.tries nodes moves core
+pub from_start : (first core : Core) (nodes : List ℕ) (moves : List Move) → LeadsTo start_drive first → IsDriven first nodes moves core
+    → FromStart first.line first.tries nodes moves core
 from_start first core nodes moves start was =
     let end : LeadsTo (driven first.line first.tries nodes) core = was.leads.drives start_drive start in
     let run : IsRun first.line first.tries (driven first.line first.tries nodes).events = rw (was.leads.line, was.leads.tries) at end.run in
@@ -52,15 +54,20 @@ from_start first core nodes moves start was =
       run = run;
       made = sym made;
       minds = λ n mind at. ap (λ (c : CoreState). c.minds n) same ∙ get_or_from_slice_get core.minds n mind _ at;
-      few = rw (← made) (omega (arith, few_moves first.line (driven first.line first.tries nodes).events, events_driven first.line first.tries start_drive nodes));
+      few = rw (← made) (omega
+          (arith, few_moves first.line (driven first.line first.tries nodes).events, events_driven first.line first.tries start_drive nodes));
     }
 
 -- the same, of a schedule
-pub scheduled : (tables : Tables) (tries : ℕ) (items : List Item) (first core : Core) (moves : List Move) → LeadsTo start_drive first → first.line ≡ tables → first.tries ≡ tries → IsDriven first (turns_of (node_count (layout_of first.line)) items) moves core → FromStart tables tries (turns_of (node_count (layout_of tables)) items) moves core
+pub scheduled : (tables : Tables) (tries : ℕ) (items : List Item) (first core : Core) (moves : List Move) → LeadsTo start_drive first → first.line ≡ tables
+    → first.tries ≡ tries → IsDriven first (turns_of (node_count (layout_of first.line)) items) moves core
+    → FromStart tables tries (turns_of (node_count (layout_of tables)) items) moves core
 scheduled tables tries items first core moves start line tries_is was =
     rw (line, tries_is) at (from_start first core (turns_of (node_count (layout_of first.line)) items) moves start was)
 
-pub few_scheduled : (tables : Tables) (tries : ℕ) (items : List Item) (moves : List Move) (core : Core) → FromStart tables tries (turns_of (node_count (layout_of tables)) items) moves core → IsScheduleFor (node_count (layout_of tables)) items → length moves < 4294967296
+pub few_scheduled : (tables : Tables) (tries : ℕ) (items : List Item) (moves : List Move) (core : Core)
+    → FromStart tables tries (turns_of (node_count (layout_of tables)) items) moves core → IsScheduleFor (node_count (layout_of tables)) items
+    → length moves < 4294967296
 few_scheduled tables tries items moves core was fits =
     omega (arith, was.few, length_turns (node_count (layout_of tables)) items, fits.few)
 

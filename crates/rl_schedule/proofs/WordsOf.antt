@@ -9,7 +9,8 @@ use Rattle.rl_schedule.specs.Orders.{order_of_words}
 abbrev is_space : ℕ → Bool
 is_space b = b == 32
 
-pub words_of-first : (text : List ℕ) (end : ℕ) → end ≡ position_or_len is_space text → end < length text → words_of text ≡ take end text ∷ words_of (drop (end + 1) text)
+pub words_of-first : (text : List ℕ) (end : ℕ) → end ≡ position_or_len is_space text → end < length text
+    → words_of text ≡ take end text ∷ words_of (drop (end + 1) text)
 words_of-first text end e h = rw e (slice_split_first is_space text 0 (rw (← e) h))
 
 pub words_of-last : (text : List ℕ) (end : ℕ) → end ≡ position_or_len is_space text → length text ≤ end → words_of text ≡ text ∷ []
@@ -27,6 +28,7 @@ four_words : (first second third : List ℕ) (rest : List (List ℕ)) → (rest 
 four_words first second third [] some = absurd (some refl)
 four_words first second third (fourth ∷ rest) some = refl
 
-pub too_many_words : (text first second third behind : List ℕ) (words more : List (List ℕ)) → words_of text ≡ first ∷ words → words ≡ second ∷ more → more ≡ third ∷ words_of behind → None ≡ order_of_words (words_of text)
+pub too_many_words : (text first second third behind : List ℕ) (words more : List (List ℕ)) → words_of text ≡ first ∷ words → words ≡ second ∷ more
+    → more ≡ third ∷ words_of behind → None ≡ order_of_words (words_of text)
 too_many_words text first second third behind words more one two three =
     rw (one, two, three) (four_words first second third (words_of behind) (words_of-some behind))

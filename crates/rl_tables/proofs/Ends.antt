@@ -54,7 +54,8 @@ high_at g h = grind (arith, nat_tests)
 only_at : (g : Segment) (b : ℕ) → is_some (arm_at b g) ≡ true → g.low.at.0 ≢ b → g.high.at.0 ≡ b
 only_at g b h other = grind (arith, nat_tests)
 
-pub are_ends : (net : NetworkPlan) (s : ℕ) (g : Segment) → IsNetwork net → slice_get net.segments s ≡ Some g → AreEnds net s g.low.at.0 g.low.arm.0 g.high.at.0 g.high.arm.0
+pub are_ends : (net : NetworkPlan) (s : ℕ) (g : Segment) → IsNetwork net → slice_get net.segments s ≡ Some g
+    → AreEnds net s g.low.at.0 g.low.arm.0 g.high.at.0 g.high.arm.0
 are_ends net s g network found =
     let order = (network.segments s g found).order in
     record {
@@ -65,14 +66,18 @@ are_ends net s g network found =
     }
 
 -- the end that isn't at b
-pub other_of_high : (net : NetworkPlan) (s low low_arm high high_arm : ℕ) → AreEnds net s low low_arm high high_arm → (b : ℕ) → low ≡ b → IsOtherEnd net s b high high_arm
+pub other_of_high : (net : NetworkPlan) (s low low_arm high high_arm : ℕ) → AreEnds net s low low_arm high high_arm → (b : ℕ) → low ≡ b
+    → IsOtherEnd net s b high high_arm
 other_of_high net s low low_arm high high_arm ends b at = record { apart = λ e. ends.apart (at ∙ sym e); there = ends.at_high }
 
 -- the segment with two ends that are given as numbers
-pub ends_given : (net : NetworkPlan) (s : ℕ) (ends : (BoxId × Arm) × (BoxId × Arm)) → IsNetwork net → option_map (λ (g : Segment). ((g.low.at, g.low.arm), (g.high.at, g.high.arm))) (slice_get net.segments s) ≡ Some ends → AreEnds net s ends.0.0.0 ends.0.1.0 ends.1.0.0 ends.1.1.0
+pub ends_given : (net : NetworkPlan) (s : ℕ) (ends : (BoxId × Arm) × (BoxId × Arm)) → IsNetwork net
+    → option_map (λ (g : Segment). ((g.low.at, g.low.arm), (g.high.at, g.high.arm))) (slice_get net.segments s) ≡ Some ends
+    → AreEnds net s ends.0.0.0 ends.0.1.0 ends.1.0.0 ends.1.1.0
 ends_given net s ends network h = from (slice_get net.segments s) refl h
   where
-    from : (o : Option Segment) → slice_get net.segments s ≡ o → option_map (λ (g : Segment). ((g.low.at, g.low.arm), (g.high.at, g.high.arm))) o ≡ Some ends → AreEnds net s ends.0.0.0 ends.0.1.0 ends.1.0.0 ends.1.1.0
+    from : (o : Option Segment) → slice_get net.segments s ≡ o → option_map (λ (g : Segment). ((g.low.at, g.low.arm), (g.high.at, g.high.arm))) o ≡ Some ends
+        → AreEnds net s ends.0.0.0 ends.0.1.0 ends.1.0.0 ends.1.1.0
     from None is e = absurd (cc)
     from (Some g) is e =
         let same = same_Some ((g.low.at, g.low.arm), (g.high.at, g.high.arm)) ends e in
@@ -87,7 +92,8 @@ no_third : (low high b c d : ℕ) → (low ≡ b) ⊎ (high ≡ b) → (low ≡ 
 no_third low high b c d hb hc hd cb db dc = grind arith
 
 -- a segment with arms at two boxes has none at a third
-pub only_two : (net : NetworkPlan) (s b x c y d z : ℕ) → arm_of net s b ≡ Some x → arm_of net s c ≡ Some y → c ≢ b → arm_of net s d ≡ Some z → ((d ≡ b) × (z ≡ x)) ⊎ ((d ≡ c) × (z ≡ y))
+pub only_two : (net : NetworkPlan) (s b x c y d z : ℕ) → arm_of net s b ≡ Some x → arm_of net s c ≡ Some y → c ≢ b → arm_of net s d ≡ Some z
+    → ((d ≡ b) × (z ≡ x)) ⊎ ((d ≡ c) × (z ≡ y))
 only_two net s b x c y d z at_b at_c apart at_d =
     option_and_then_some (arm_at b) (slice_get net.segments s) x at_b
     (λ g found here.

@@ -72,8 +72,13 @@ starter_found net tables t s are starts =
     some_mapped (λ (x : TrainTable). x.number) (find (λ (x : TrainTable). x.first.0 == s) tables.trains)
     (some_found (λ (x : TrainTable). x.first.0 == s) tables.trains t item.0 item.1 (eq-eqb item.0.first.0 s first))
 
-pub holder_is : (net : NetworkPlan) (tables : Tables) (t s : ℕ) → IsNetwork net → AreTablesOf net tables → (option_map (λ (u : TrainId). u.0) (holder_of tables s) ≡ Some t) ↔ StartsOn net t s
-holder_is net tables t s network are = (from (holder_of tables s) (starter_is net tables s are), λ starts. to (holder_of tables s) (starter_is net tables s are) starts (starter_found net tables t s are starts))
+pub holder_is : (net : NetworkPlan) (tables : Tables) (t s : ℕ) → IsNetwork net → AreTablesOf net tables
+    → (option_map (λ (u : TrainId). u.0) (holder_of tables s) ≡ Some t) ↔ StartsOn net t s
+holder_is net tables t s network are = (
+  from (holder_of tables s) (starter_is net tables s are),
+  λ starts. to (holder_of tables s) (starter_is net tables s are) starts
+      (starter_found net tables t s are starts),
+)
   where
     from : (o : Option TrainId) → IfSome o (λ u. StartsOn net u.0 s) → option_map (λ (u : TrainId). u.0) o ≡ Some t → StartsOn net t s
     from None h e = absurd (cc)

@@ -89,7 +89,8 @@ arm_named n tables d z s network are a =
     (network.boxes d found.0 found.1).segments z s (sym (same_segment n tables d z are within) ∙ a.segment)
 
 -- a segment with arms at two boxes is at no other arm
-only_at : (n : NetworkPlan) (tables : Tables) (s b x c y : ℕ) → IsNetwork n → AreTablesOf n tables → arm_of n s b ≡ Some x → arm_of n s c ≡ Some y → c ≢ b → IsOnlyAt tables s b x c y
+only_at : (n : NetworkPlan) (tables : Tables) (s b x c y : ℕ) → IsNetwork n → AreTablesOf n tables → arm_of n s b ≡ Some x → arm_of n s c ≡ Some y → c ≢ b
+    → IsOnlyAt tables s b x c y
 only_at n tables s b x c y network are at_b at_c apart = λ d z a. only_two n s b x c y d z at_b at_c apart (arm_named n tables d z s network are a)
 
 -- a segment of the network has two ends
@@ -110,7 +111,8 @@ has_ends n tables s network are within =
       only = only_at n tables s g.low.at.0 g.low.arm.0 g.high.at.0 g.high.arm.0 network are ends.at_low ends.at_high apart;
     }
 
-is_row : (n : NetworkPlan) (tables : Tables) (t k : ℕ) (row : StepRow) → IsNetwork n → AreTablesOf n tables → t < length n.trains → IsStepRow n t k row → IsRow tables row
+is_row : (n : NetworkPlan) (tables : Tables) (t k : ℕ) (row : StepRow) → IsNetwork n → AreTablesOf n tables → t < length n.trains → IsStepRow n t k row
+    → IsRow tables row
 is_row n tables t k row network are within is =
     let fits = connected n t k row.s.0 row.b.0 row.s2.0 network within is.step in
     let joins = arms_joined n row.b.0 row.s.0 row.s2.0 row.x.0 row.y.0 is.x is.y fits in
@@ -130,7 +132,8 @@ is_row n tables t k row network are within is =
       back_only = only_at n tables row.s.0 row.b.0 row.x.0 row.a.0 row.a_arm.0 network are is.x is.back.there is.back.apart;
     }
 
-is_train : (n : NetworkPlan) (tables : Tables) (t : ℕ) (x : TrainTable) → IsNetwork n → AreTablesOf n tables → t < length n.trains → IsTrainTable n t x → IsTrain tables t x
+is_train : (n : NetworkPlan) (tables : Tables) (t : ℕ) (x : TrainTable) → IsNetwork n → AreTablesOf n tables → t < length n.trains → IsTrainTable n t x
+    → IsTrain tables t x
 is_train n tables t x network are within is =
     record {
       number = is.number;

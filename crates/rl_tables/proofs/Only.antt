@@ -16,7 +16,8 @@ use Rattle.rl_tables.specs.declared.table.Tables.{Tables}
 use Rattle.rl_tables.specs.Tables.{IsListOf, IsBoxTable, IsOtherEnd, IsStepRow, IsTrainTable, AreTablesOf}
 
 -- two lists that are as long, with items that belong at their places, where one thing at most belongs at each
-same_items : {A : Type 0} (P : ℕ → A → Type 0) (xs ys : List A) → length xs ≡ length ys → ((k : ℕ) (x : A) → slice_get xs k ≡ Some x → P k x) → ((k : ℕ) (x : A) → slice_get ys k ≡ Some x → P k x) → ((k : ℕ) (x y : A) → P k x → P k y → x ≡ y) → xs ≡ ys
+same_items : {A : Type 0} (P : ℕ → A → Type 0) (xs ys : List A) → length xs ≡ length ys → ((k : ℕ) (x : A) → slice_get xs k ≡ Some x → P k x)
+    → ((k : ℕ) (x : A) → slice_get ys k ≡ Some x → P k x) → ((k : ℕ) (x y : A) → P k x → P k y → x ≡ y) → xs ≡ ys
 same_items P [] [] len each_x each_y one = refl
 same_items P [] (y ∷ ys) len each_x each_y one = absurd (omega arith)
 same_items P (x ∷ xs) [] len each_x each_y one = absurd (omega arith)
@@ -25,7 +26,8 @@ same_items P (x ∷ xs) (y ∷ ys) len each_x each_y one =
     let tail : xs ≡ ys = same_items (λ k. P (suc k)) xs ys (omega arith) (λ k. each_x (suc k)) (λ k. each_y (suc k)) (λ k. one (suc k)) in
     cc
 
-same_list : {A : Type 0} (n : ℕ) (P : ℕ → A → Type 0) (xs ys : List A) → IsListOf n P xs → IsListOf n P ys → ((k : ℕ) (x y : A) → P k x → P k y → x ≡ y) → xs ≡ ys
+same_list : {A : Type 0} (n : ℕ) (P : ℕ → A → Type 0) (xs ys : List A) → IsListOf n P xs → IsListOf n P ys → ((k : ℕ) (x y : A) → P k x → P k y → x ≡ y)
+    → xs ≡ ys
 same_list n P xs ys is_x is_y one = same_items P xs ys (is_x.length_is ∙ sym is_y.length_is) is_x.each is_y.each one
 
 -- a record is its fields, numbers without their types
@@ -101,7 +103,8 @@ same_row net t k row row2 is is2 =
     let c_arm : row.c_arm.0 ≡ row2.c_arm.0 = far.1 in
     let a : row.a.0 ≡ row2.a.0 = back.0 in
     let a_arm : row.a_arm.0 ≡ row2.a_arm.0 = back.1 in
-    let whole : row_of row.s.0 row.s2.0 row.b.0 row.x.0 row.y.0 row.c.0 row.c_arm.0 row.a.0 row.a_arm.0 ≡ row_of row2.s.0 row2.s2.0 row2.b.0 row2.x.0 row2.y.0 row2.c.0 row2.c_arm.0 row2.a.0 row2.a_arm.0 = cc in
+    let whole : row_of row.s.0 row.s2.0 row.b.0 row.x.0 row.y.0 row.c.0 row.c_arm.0 row.a.0 row.a_arm.0
+    ≡ row_of row2.s.0 row2.s2.0 row2.b.0 row2.x.0 row2.y.0 row2.c.0 row2.c_arm.0 row2.a.0 row2.a_arm.0 = cc in
     whole
 
 same_train : (net : NetworkPlan) (t : ℕ) (x y : TrainTable) → IsTrainTable net t x → IsTrainTable net t y → x ≡ y

@@ -47,7 +47,8 @@ pub record IsThere (net : NetworkPlan) (x : TrainTable) : Type 0 where
   pub short : length x.rows ≤ 64
   pub rows : (k : ℕ) (row : StepRow) → slice_get x.rows k ≡ Some row → IsRowOf net row
 
-pub train_there : (net : NetworkPlan) (tables : Tables) (t : ℕ) (x : TrainTable) → IsNetwork net → AreTablesOf net tables → slice_get tables.trains t ≡ Some x → IsThere net x
+pub train_there : (net : NetworkPlan) (tables : Tables) (t : ℕ) (x : TrainTable) → IsNetwork net → AreTablesOf net tables → slice_get tables.trains t ≡ Some x
+    → IsThere net x
 train_there net tables t x network are found =
     let is = are.trains.each t x found in
     let number = is.number in

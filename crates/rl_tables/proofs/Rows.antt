@@ -37,7 +37,8 @@ both_end net b s s2 h =
     (or_cases (connects net b s s2 Left) (connects net b s s2 Right) h)
 
 -- their arms are joined by some side
-pub arms_joined : (net : NetworkPlan) (b s s2 x y : ℕ) → arm_of net s b ≡ Some x → arm_of net s2 b ≡ Some y → can_connect net b s s2 ≡ true → can_join (kind_of net b) x y ≡ true
+pub arms_joined : (net : NetworkPlan) (b s s2 x y : ℕ) → arm_of net s b ≡ Some x → arm_of net s2 b ≡ Some y → can_connect net b s s2 ≡ true
+    → can_join (kind_of net b) x y ≡ true
 arms_joined net b s s2 x y at_x at_y h =
     subst (λ (o : Option ℕ). (joined (kind_of net b) Left (Some x) o || joined (kind_of net b) Right (Some x) o) ≡ true) at_y
     (subst (λ (o : Option ℕ). (joined (kind_of net b) Left o (arm_of net s2 b) || joined (kind_of net b) Right o (arm_of net s2 b)) ≡ true) at_x h)

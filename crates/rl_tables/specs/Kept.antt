@@ -1,4 +1,5 @@
--- What every line keeps, whatever its network: sizes within the limits, and rows that make sense in the tables of the boxes.
+-- What every line keeps, whatever its network: sizes within the limits, and rows that make sense in the tables of the
+-- boxes.
 use Rattle.std.specs.Prelude.{◌≡◌, ℕ, ◌+◌, ◌<◌, ◌≤◌, ◌≢◌, ◌⊎◌, nat_lt, Bool, true, ◌||◌, length, slice_get, Option, Some, is_some, option_and_then}
 use Rattle.std.specs.Option.{option_map_or}
 use Rattle.rl_base.specs.declared.kind.Kind.{Kind}
@@ -73,7 +74,8 @@ pub record IsTrain (tables : Tables) (t : ℕ) (x : TrainTable) : Type 0 where
   pub rows : (k : ℕ) (row : StepRow) → slice_get x.rows k ≡ Some row → IsRow tables row
   pub starts : HasEnds tables x.first.0
   pub first : (row : StepRow) → slice_get x.rows 0 ≡ Some row → row.s.0 ≡ x.first.0
-  pub chained : (k : ℕ) (row next : StepRow) → slice_get x.rows k ≡ Some row → slice_get x.rows (k + 1) ≡ Some next → next.s.0 ≡ row.s2.0
+  pub chained : (k : ℕ) (row next : StepRow) → slice_get x.rows k ≡ Some row → slice_get x.rows (k + 1) ≡ Some next
+      → next.s.0 ≡ row.s2.0
 
 -- at most 128 boxes and 32 trains, each in itself, and no two trains start on one segment
 pub record IsLine (tables : Tables) : Type 0 where
@@ -81,4 +83,5 @@ pub record IsLine (tables : Tables) : Type 0 where
   pub few_trains : length tables.trains ≤ 32
   pub boxes : (b : ℕ) (x : BoxTable) → slice_get tables.boxes b ≡ Some x → IsBox b x
   pub trains : (t : ℕ) (x : TrainTable) → slice_get tables.trains t ≡ Some x → IsTrain tables t x
-  pub starts : (t u : ℕ) (x y : TrainTable) → slice_get tables.trains t ≡ Some x → slice_get tables.trains u ≡ Some y → x.first.0 ≡ y.first.0 → t ≡ u
+  pub starts : (t u : ℕ) (x y : TrainTable) → slice_get tables.trains t ≡ Some x → slice_get tables.trains u ≡ Some y
+      → x.first.0 ≡ y.first.0 → t ≡ u

@@ -51,7 +51,8 @@ start_lock x = Free x.side
 -- the number of each word at the start
 abbrev pub start_payload : Tables → WordKind → ℕ
 start_payload tables words.Still = 0
-start_payload tables (words.Resv b) = option_map_or (λ x. packed_resv (start_resv tables x)) (slice_get tables.boxes b.0) 0
+start_payload tables (words.Resv b) =
+    option_map_or (λ x. packed_resv (start_resv tables x)) (slice_get tables.boxes b.0) 0
 start_payload tables (words.Lock b) = option_map_or (λ x. packed_lock (start_lock x)) (slice_get tables.boxes b.0) 0
 start_payload tables (words.Mail t) = packed_mail Empty
 start_payload tables (words.Run t) = packed_run (Clear 0)

@@ -19,12 +19,14 @@ holder_word net tables s = option_map_or (λ (t : TrainId). train_name net t.0) 
 
 -- the line of arm i with segment s, if the box has that arm
 abbrev pub arm_line : NetworkPlan → Tables → ℕ → Option SegId → List ℕ
-arm_line net tables i (Some s) = line_of (codes "arm" ∷ decimal i ∷ segment_name net s.0 ∷ holder_word net tables s.0 ∷ [])
+arm_line net tables i (Some s) =
+    line_of (codes "arm" ∷ decimal i ∷ segment_name net s.0 ∷ holder_word net tables s.0 ∷ [])
 arm_line net tables i None = []
 
 -- the line that names a box
 abbrev pub box_line : NetworkPlan → BoxTable → List ℕ
-box_line net x = line_of (codes "box" ∷ decimal x.number.0 ∷ box_name net x.number.0 ∷ kind_word x.kind ∷ side_word x.side ∷ [])
+box_line net x = line_of
+    (codes "box" ∷ decimal x.number.0 ∷ box_name net x.number.0 ∷ kind_word x.kind ∷ side_word x.side ∷ [])
 
 -- that line and those of the arms
 abbrev pub box_lines : NetworkPlan → Tables → BoxTable → List ℕ
@@ -48,7 +50,8 @@ step_lines net k (row ∷ rows) = step_line net k row ++ step_lines net (suc k) 
 
 -- the line that names a train
 abbrev pub train_line : NetworkPlan → TrainTable → List ℕ
-train_line net x = line_of (codes "train" ∷ decimal x.number.0 ∷ train_name net x.number.0 ∷ decimal (length x.rows) ∷ [])
+train_line net x = line_of
+    (codes "train" ∷ decimal x.number.0 ∷ train_name net x.number.0 ∷ decimal (length x.rows) ∷ [])
 
 -- that line and those of the steps
 abbrev pub train_lines : NetworkPlan → TrainTable → List ℕ

@@ -13,6 +13,8 @@ ghost use Rattle.rl_tables.specs.Starts.{holder_of};
 pub fn tables_of_networks()
     ensures only { (net : NetworkPlan) (a b : Tables) → AreTablesOf net a → AreTablesOf net b → a ≡ b }
     ensures line { (net : NetworkPlan) (tables : Tables) → IsNetwork net → AreTablesOf net tables → IsLine tables }
-    ensures rows { (net : NetworkPlan) (t k : ℕ) (row : StepRow) → IsNetwork net → IsStepRow net t k row → IsRowOf net row }
-    ensures holders { (net : NetworkPlan) (tables : Tables) (t s : ℕ) → IsNetwork net → AreTablesOf net tables → (option_map (λ u. u.0) (holder_of tables s) ≡ Some t) ↔ StartsOn net t s }
+    ensures rows { (net : NetworkPlan) (t k : ℕ) (row : StepRow) → IsNetwork net → IsStepRow net t k row
+        → IsRowOf net row }
+    ensures holders { (net : NetworkPlan) (tables : Tables) (t s : ℕ) → IsNetwork net → AreTablesOf net tables
+        → (option_map (λ u. u.0) (holder_of tables s) ≡ Some t) ↔ StartsOn net t s }
 {}

@@ -54,7 +54,8 @@ impl Line {
     /// What the word says at the start, as the payload of a word with stamp 0.
     pub fn start_word(&self, w: WordNo) -> u64
         requires { w.0 < word_count (layout_of self.now) }
-        ensures { (kind : WordKind) → HasWord (layout_of self.now) kind → word_number (layout_of self.now) kind ≡ w.0 → result ≡ start_payload self.now kind }
+        ensures { (kind : WordKind) → HasWord (layout_of self.now) kind → word_number (layout_of self.now) kind ≡ w.0
+            → result ≡ start_payload self.now kind }
     {
         let payload = match self.layout().word_kind(w) {
             WordKind::Still => 0,

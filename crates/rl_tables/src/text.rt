@@ -87,7 +87,8 @@ fn put_end(out: &mut Out, net: &Network, b: BoxId, arm: Arm) -> Result<(), NoMem
 /// Appends the box that the row passes and the two arms there.
 fn put_passage(out: &mut Out, net: &Network, row: &StepRow) -> Result<(), NoMemory>
     requires there { IsBoxOf net.now row.now.b }
-    ensures { OnOk result (out.new ≡ out.old ++ 32 ∷ box_name net.now row.now.b.0 ++ 32 ∷ decimal row.now.x.0 ++ 32 ∷ decimal row.now.y.0) }
+    ensures { OnOk result (out.new ≡ out.old ++ 32 ∷ box_name net.now row.now.b.0 ++ 32 ∷ decimal row.now.x.0
+        ++ 32 ∷ decimal row.now.y.0) }
 {
     put_end(out, net, row.b, row.x)?;
     out.count(row.y.0)

@@ -8,5 +8,6 @@ joined first [] = sym (append-nil first)
 joined first (x ∷ xs) = ap (λ rest. first ++ 32 ∷ rest) (joined x xs)
 
 -- what is put piece by piece behind a text is the text and the line
-pub line_behind : (text first : List ℕ) (others : List (List ℕ)) → text ++ first ++ spaced others ++ 10 ∷ [] ≡ text ++ (join_with_byte 32 (first ∷ others) ++ 10 ∷ [])
+pub line_behind : (text first : List ℕ) (others : List (List ℕ))
+    → text ++ first ++ spaced others ++ 10 ∷ [] ≡ text ++ (join_with_byte 32 (first ∷ others) ++ 10 ∷ [])
 line_behind text first others = rw joined (simp append_assoc)

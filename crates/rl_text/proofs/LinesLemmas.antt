@@ -12,7 +12,8 @@ abbrev is_lf : ℕ → Bool
 is_lf b = b == 10
 
 -- a part that another one follows is a whole line
-lines_of_parts-cons : (part : List ℕ) (parts : List (List ℕ)) → 0 < length parts → lines_of_parts (part ∷ parts) ≡ record { text = part; whole = true } ∷ lines_of_parts parts
+lines_of_parts-cons : (part : List ℕ) (parts : List (List ℕ)) → 0 < length parts
+    → lines_of_parts (part ∷ parts) ≡ record { text = part; whole = true } ∷ lines_of_parts parts
 lines_of_parts-cons part [] h = absurd (omega arith)
 lines_of_parts-cons part (next ∷ parts) h = refl
 
@@ -21,9 +22,12 @@ lines_of_parts-last : (text : List ℕ) → 0 < length text → lines_of_parts (
 lines_of_parts-last text h = grind (arith, nat_tests)
 
 -- a text with an LF begins with a whole line
-lines_of_whole : (text : List ℕ) → position_or_len is_lf text < length text → lines_of text ≡ record { text = before_first is_lf text; whole = true } ∷ lines_of (after_first is_lf text)
+lines_of_whole : (text : List ℕ) → position_or_len is_lf text < length text
+    → lines_of text ≡ record { text = before_first is_lf text; whole = true } ∷ lines_of (after_first is_lf text)
 lines_of_whole text h =
-    ap lines_of_parts (slice_split_first is_lf text 0 h) ∙ lines_of_parts-cons (before_first is_lf text) (slice_split is_lf (after_first is_lf text)) (omega (arith, length-slice_split is_lf (after_first is_lf text)))
+    ap lines_of_parts (slice_split_first is_lf text 0 h)
+    ∙ lines_of_parts-cons (before_first is_lf text) (slice_split is_lf (after_first is_lf text))
+    (omega (arith, length-slice_split is_lf (after_first is_lf text)))
 
 -- a text without one is one line, if it has bytes
 lines_of_cut : (text : List ℕ) → 0 < length text → length text ≤ position_or_len is_lf text → lines_of text ≡ record { text = text; whole = false } ∷ []
@@ -31,7 +35,8 @@ lines_of_cut text some h =
     ap lines_of_parts (slice_split_none is_lf text (λ k d l. fails_before_first is_lf text k d (omega arith))) ∙ lines_of_parts-last text some
 
 -- the first line ends at the first LF, or with the text
-pub lines_of-first : (text : List ℕ) (end : ℕ) → 0 < length text → end ≡ position_or_len is_lf text → lines_of text ≡ record { text = take end text; whole = ltb end (length text) } ∷ lines_of (drop (end + 1) text)
+pub lines_of-first : (text : List ℕ) (end : ℕ) → 0 < length text → end ≡ position_or_len is_lf text
+    → lines_of text ≡ record { text = take end text; whole = ltb end (length text) } ∷ lines_of (drop (end + 1) text)
 lines_of-first text end some e =
     elim (leb_tells (suc end) (length text)) [
       | inl h ↦ let whole : ltb end (length text) ≡ true = h.0 in rw (whole, e) (lines_of_whole text (omega arith))

@@ -21,7 +21,8 @@ pub IsUtf8-from_digits : (t : List ℕ) → list_all is_ascii_digit t ≡ true �
 IsUtf8-from_digits t h = IsUtf8-from_ascii t (IsAscii-from_digits t (digits_model.to t h))
 
 -- digits with no zero in front are what `decimal` writes of their number
-pub digits-decimal : (t : List ℕ) → list_all is_ascii_digit t ≡ true → has_leading_zero t ≡ false → 0 < length t → digits_value 10 t < 2 ^ 64 → t ≡ decimal (digits_value 10 t)
+pub digits-decimal : (t : List ℕ) → list_all is_ascii_digit t ≡ true → has_leading_zero t ≡ false → 0 < length t → digits_value 10 t < 2 ^ 64
+    → t ≡ decimal (digits_value 10 t)
 digits-decimal t h plain some fits = sym (decimal-digits_value digits_model t h some (λ z. grind (arith, nat_tests)) fits)
 
 -- a text whose first byte isn't 0 has no zero in front
@@ -64,7 +65,8 @@ SomeIff-result_ok (Ok x) P v h = h
 SomeIff-result_ok (Err e) P v h = h
 
 -- a failed test of digits, or a zero in front, leaves no number
-none_by_tests : (some digits leads fits : Bool) (v : ℕ) → (digits ≡ false) ⊎ (leads ≡ true) → None ≡ (if some && digits && not leads && fits then Some v else None)
+none_by_tests : (some digits leads fits : Bool) (v : ℕ) → (digits ≡ false) ⊎ (leads ≡ true)
+    → None ≡ (if some && digits && not leads && fits then Some v else None)
 none_by_tests false digits leads fits v h = refl
 none_by_tests true false leads fits v h = refl
 none_by_tests true true true fits v h = refl
@@ -83,7 +85,8 @@ some_by_bounds : (len v : ℕ) → 0 < len → v < 2 ^ 64 → Some v ≡ (if nat
 some_by_bounds len v some fits = grind (arith, nat_tests)
 
 -- digits with no zero in front write their number, where there are any and it fits
-pub number_of-digits : (t : List ℕ) (o : Option ℕ) → list_all is_ascii_digit t ≡ true → has_leading_zero t ≡ false → SomeIff o ((0 < length t) × (digits_value 10 t < 2 ^ 64)) (digits_value 10 t) → o ≡ number_of t
+pub number_of-digits : (t : List ℕ) (o : Option ℕ) → list_all is_ascii_digit t ≡ true → has_leading_zero t ≡ false
+    → SomeIff o ((0 < length t) × (digits_value 10 t < 2 ^ 64)) (digits_value 10 t) → o ≡ number_of t
 unfolding number_of
 number_of-digits t None h plain s = rw (h, plain) (none_by_bounds (length t) (digits_value 10 t) s)
 number_of-digits t (Some x) h plain s = rw (h, plain, s.1) (some_by_bounds (length t) (digits_value 10 t) s.0.0 s.0.1)

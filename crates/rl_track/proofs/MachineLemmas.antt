@@ -42,23 +42,31 @@ front b mind (Mail t v) r e = absurd (cc)
 front b mind (Run t v) r e = absurd (cc)
 front b mind (Sense t v) r e = absurd (cc)
 
-pub machine_front : (b : BoxId) (mind : MachineMind) (word next : Word) (after : MachineMind) → machine_on b mind word ≡ Some (next, after) → MachineStep b mind word next after
+pub machine_front : (b : BoxId) (mind : MachineMind) (word next : Word) (after : MachineMind) → machine_on b mind word ≡ Some (next, after)
+    → MachineStep b mind word next after
 machine_front b mind word next after e = front b mind word (next, after) e
 
-pub machine_back : (b : BoxId) (mind : MachineMind) (word next : Word) (after : MachineMind) → MachineStep b mind word next after → machine_on b mind word ≡ Some (next, after)
+pub machine_back : (b : BoxId) (mind : MachineMind) (word next : Word) (after : MachineMind) → MachineStep b mind word next after
+    → machine_on b mind word ≡ Some (next, after)
 machine_back b _ _ _ _ (throw mind p) = let own : (b.0 == b.0) ≡ true = eq-eqb b.0 b.0 refl in rw own refl
 machine_back b _ _ _ _ (settle mind p) = let own : (b.0 == b.0) ≡ true = eq-eqb b.0 b.0 refl in rw own refl
 
-pub step_front : (b : BoxId) (mind : MachineMind) (kind : WordKind) (payload new : ℕ) (after : MachineMind) → machine_step b mind kind payload ≡ Some (new, after) → PackedStep (MachineStep b mind) kind payload new after
+pub step_front : (b : BoxId) (mind : MachineMind) (kind : WordKind) (payload new : ℕ) (after : MachineMind)
+    → machine_step b mind kind payload ≡ Some (new, after) → PackedStep (MachineStep b mind) kind payload new after
 unfolding machine_step
-step_front b mind kind payload new after e = packed_by _ _ kind payload new after (machine_front b mind) (packed_front (machine_on b mind) kind payload new after e)
+step_front b mind kind payload new after e =
+    packed_by _ _ kind payload new after (machine_front b mind) (packed_front (machine_on b mind) kind payload new after e)
 
-pub step_back : (b : BoxId) (mind : MachineMind) (kind : WordKind) (payload new : ℕ) (after : MachineMind) → PackedStep (MachineStep b mind) kind payload new after → machine_step b mind kind payload ≡ Some (new, after)
+pub step_back : (b : BoxId) (mind : MachineMind) (kind : WordKind) (payload new : ℕ) (after : MachineMind)
+    → PackedStep (MachineStep b mind) kind payload new after → machine_step b mind kind payload ≡ Some (new, after)
 unfolding machine_step
-step_back b mind kind payload new after p = packed_back (machine_on b mind) kind payload new after (packed_by _ _ kind payload new after (machine_back b mind) p)
+step_back b mind kind payload new after p =
+    packed_back (machine_on b mind) kind payload new after (packed_by _ _ kind payload new after (machine_back b mind) p)
 
-pub one_step : (b : BoxId) (mind : MachineMind) (word next other : Word) (after last : MachineMind) → MachineStep b mind word next after → MachineStep b mind word other last → (next ≡ other) × (after ≡ last)
-one_step b mind word next other after last p q = some_pair_parts next other after last (sym (machine_back b mind word next after p) ∙ machine_back b mind word other last q)
+pub one_step : (b : BoxId) (mind : MachineMind) (word next other : Word) (after last : MachineMind) → MachineStep b mind word next after
+    → MachineStep b mind word other last → (next ≡ other) × (after ≡ last)
+one_step b mind word next other after last p q =
+    some_pair_parts next other after last (sym (machine_back b mind word next after p) ∙ machine_back b mind word other last q)
 
 -- what is so of a step of a machine, word by word
 record Keeps (lay : Layout) (b : BoxId) (word next : Word) : Type 0 where
@@ -68,11 +76,13 @@ record Keeps (lay : Layout) (b : BoxId) (word next : Word) : Type 0 where
   kind : kind_of next ≡ kind_of word
   fits : FitsWord next
 
-kept : (lay : Layout) (b : BoxId) (mind : MachineMind) (word next : Word) (after : MachineMind) → b.0 < lay.boxes → MachineStep b mind word next after → FitsWord word → Keeps lay b word next
+kept : (lay : Layout) (b : BoxId) (mind : MachineMind) (word next : Word) (after : MachineMind) → b.0 < lay.boxes → MachineStep b mind word next after
+    → FitsWord word → Keeps lay b word next
 kept lay b _ _ _ _ there (throw mind p) fits = record { target = refl; owner = refl; has_word = there; kind = refl; fits = fits }
 kept lay b _ _ _ _ there (settle mind p) fits = record { target = refl; owner = refl; has_word = there; kind = refl; fits = fits }
 
-pub keeps : ReadsWords → PacksSmall → OwnsWords → (lay : Layout) (b : BoxId) (mind : MachineMind) (kind : WordKind) (payload new : ℕ) (after : MachineMind) → b.0 < lay.boxes → machine_step b mind kind payload ≡ Some (new, after) → KeepsMachine lay b mind kind payload new after
+pub keeps : ReadsWords → PacksSmall → OwnsWords → (lay : Layout) (b : BoxId) (mind : MachineMind) (kind : WordKind) (payload new : ℕ) (after : MachineMind)
+    → b.0 < lay.boxes → machine_step b mind kind payload ≡ Some (new, after) → KeepsMachine lay b mind kind payload new after
 keeps reads small owns lay b mind kind payload new after there e =
     let p = step_front b mind kind payload new after e in
     let r = reads kind payload p.seen p.reads in

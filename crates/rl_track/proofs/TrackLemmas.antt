@@ -85,25 +85,31 @@ module _ (t : TrainId) where
       let to : Word × TrackMind → Type 0 = λ q. TrackStep t mind (Sense u v) q.0 q.1 in
       subst to m.2 (subst of (sym (train_same u t on.0)) (sense_front mind.step mind.phase v m.0 m.1))
 
-pub track_front : (t : TrainId) (mind : TrackMind) (word next : Word) (after : TrackMind) → track_on t mind word ≡ Some (next, after) → TrackStep t mind word next after
+pub track_front : (t : TrainId) (mind : TrackMind) (word next : Word) (after : TrackMind) → track_on t mind word ≡ Some (next, after)
+    → TrackStep t mind word next after
 track_front t mind word next after e = front t mind word (next, after) e
 
-pub track_back : (t : TrainId) (mind : TrackMind) (word next : Word) (after : TrackMind) → TrackStep t mind word next after → track_on t mind word ≡ Some (next, after)
+pub track_back : (t : TrainId) (mind : TrackMind) (word next : Word) (after : TrackMind) → TrackStep t mind word next after
+    → track_on t mind word ≡ Some (next, after)
 track_back t _ _ _ _ (enter k) = rw (itself t.0, itself k) refl
 track_back t _ _ _ _ (head k) = rw (itself t.0, itself k) refl
 track_back t _ _ _ _ (leave k) = rw (itself t.0, itself k) refl
 track_back t _ _ _ _ (tail k) = rw (itself t.0, itself k) refl
 
-pub step_front : (t : TrainId) (mind : TrackMind) (kind : WordKind) (payload new : ℕ) (after : TrackMind) → track_step t mind kind payload ≡ Some (new, after) → PackedStep (TrackStep t mind) kind payload new after
+pub step_front : (t : TrainId) (mind : TrackMind) (kind : WordKind) (payload new : ℕ) (after : TrackMind) → track_step t mind kind payload ≡ Some (new, after)
+    → PackedStep (TrackStep t mind) kind payload new after
 unfolding track_step
 step_front t mind kind payload new after e = packed_by _ _ kind payload new after (track_front t mind) (packed_front (track_on t mind) kind payload new after e)
 
-pub step_back : (t : TrainId) (mind : TrackMind) (kind : WordKind) (payload new : ℕ) (after : TrackMind) → PackedStep (TrackStep t mind) kind payload new after → track_step t mind kind payload ≡ Some (new, after)
+pub step_back : (t : TrainId) (mind : TrackMind) (kind : WordKind) (payload new : ℕ) (after : TrackMind) → PackedStep (TrackStep t mind) kind payload new after
+    → track_step t mind kind payload ≡ Some (new, after)
 unfolding track_step
 step_back t mind kind payload new after p = packed_back (track_on t mind) kind payload new after (packed_by _ _ kind payload new after (track_back t mind) p)
 
-pub one_step : (t : TrainId) (mind : TrackMind) (word next other : Word) (after last : TrackMind) → TrackStep t mind word next after → TrackStep t mind word other last → (next ≡ other) × (after ≡ last)
-one_step t mind word next other after last p q = some_pair_parts next other after last (sym (track_back t mind word next after p) ∙ track_back t mind word other last q)
+pub one_step : (t : TrainId) (mind : TrackMind) (word next other : Word) (after last : TrackMind) → TrackStep t mind word next after
+    → TrackStep t mind word other last → (next ≡ other) × (after ≡ last)
+one_step t mind word next other after last p q =
+    some_pair_parts next other after last (sym (track_back t mind word next after p) ∙ track_back t mind word other last q)
 
 -- what is so of a step of a track, word by word
 record Keeps (lay : Layout) (t : TrainId) (mind : TrackMind) (word next : Word) (after : TrackMind) : Type 0 where
@@ -114,7 +120,8 @@ record Keeps (lay : Layout) (t : TrainId) (mind : TrackMind) (word next : Word) 
   fits : FitsWord next
   after_is : IsTrackMind after
 
-kept : (lay : Layout) (t : TrainId) (mind : TrackMind) (word next : Word) (after : TrackMind) → t.0 < lay.trains → TrackStep t mind word next after → IsTrackMind mind → FitsWord word → Keeps lay t mind word next after
+kept : (lay : Layout) (t : TrainId) (mind : TrackMind) (word next : Word) (after : TrackMind) → t.0 < lay.trains → TrackStep t mind word next after
+    → IsTrackMind mind → FitsWord word → Keeps lay t mind word next after
 kept lay t _ _ _ _ there (enter k) h fits = record { target = refl; owner = refl; has_word = there; kind = refl; fits = fits; after_is = fits }
 kept lay t _ _ _ _ there (head k) h fits = record { target = refl; owner = refl; has_word = there; kind = refl; fits = h; after_is = h }
 kept lay t _ _ _ _ there (leave k) h fits = record { target = refl; owner = refl; has_word = there; kind = refl; fits = omega arith; after_is = h }
@@ -128,9 +135,11 @@ abbrev pub PacksSmall : Type 0
 PacksSmall = (word : Word) → FitsWord word → packed_word word < 2 ^ 32
 
 abbrev pub OwnsWords : Type 0
-OwnsWords = (lay : Layout) (word : Word) → HasWord lay (kind_of word) → HasNode lay (word_owner word) → FitsWord word → Owns lay (word_number lay (kind_of word)) (packed_word word) (node_number lay (word_owner word))
+OwnsWords = (lay : Layout) (word : Word) → HasWord lay (kind_of word) → HasNode lay (word_owner word) → FitsWord word
+    → Owns lay (word_number lay (kind_of word)) (packed_word word) (node_number lay (word_owner word))
 
-pub keeps : ReadsWords → PacksSmall → OwnsWords → (lay : Layout) (t : TrainId) (mind : TrackMind) (kind : WordKind) (payload new : ℕ) (after : TrackMind) → t.0 < lay.trains → IsTrackMind mind → track_step t mind kind payload ≡ Some (new, after) → KeepsTrack lay t mind kind payload new after
+pub keeps : ReadsWords → PacksSmall → OwnsWords → (lay : Layout) (t : TrainId) (mind : TrackMind) (kind : WordKind) (payload new : ℕ) (after : TrackMind)
+    → t.0 < lay.trains → IsTrackMind mind → track_step t mind kind payload ≡ Some (new, after) → KeepsTrack lay t mind kind payload new after
 keeps reads small owns lay t mind kind payload new after there h e =
     let p = step_front t mind kind payload new after e in
     let r = reads kind payload p.seen p.reads in

@@ -14,7 +14,8 @@ use Rattle.rl_track.specs.Machine.{MachineStep, machine_target}
 use Rattle.rl_track.specs.Track.{IsTrackMind, TrackStep, track_target}
 
 -- a step changes the word that the track looks at and owns, leaves a value of that word there, and a well-formed mind
-pub record KeepsTrack (lay : Layout) (t : TrainId) (mind : TrackMind) (kind : WordKind) (payload new : ℕ) (after : TrackMind) : Type 0 where
+pub record KeepsTrack (lay : Layout) (t : TrainId) (mind : TrackMind) (kind : WordKind) (payload new : ℕ)
+    (after : TrackMind) : Type 0 where
   pub target : kind ≡ track_target t mind
   pub owned : Owns lay (word_number lay kind) payload (node_number lay (nodes.Track t))
   pub seen : Word
@@ -26,7 +27,8 @@ pub record KeepsTrack (lay : Layout) (t : TrainId) (mind : TrackMind) (kind : Wo
   pub after_is : IsTrackMind after
 
 -- a step changes the word that the machine looks at and owns, and leaves a value of that word there
-pub record KeepsMachine (lay : Layout) (b : BoxId) (mind : MachineMind) (kind : WordKind) (payload new : ℕ) (after : MachineMind) : Type 0 where
+pub record KeepsMachine (lay : Layout) (b : BoxId) (mind : MachineMind) (kind : WordKind) (payload new : ℕ)
+    (after : MachineMind) : Type 0 where
   pub target : kind ≡ machine_target b
   pub owned : Owns lay (word_number lay kind) payload (node_number lay (nodes.Machine b))
   pub seen : Word

@@ -39,7 +39,8 @@ pub fn machine_lines()
     ensures words { (b : BoxId) (mind : MachineMind) (word next : Word) (after : MachineMind)
         → (machine_on b mind word ≡ Some (next, after)) ↔ MachineStep b mind word next after }
     ensures payloads { (b : BoxId) (mind : MachineMind) (kind : WordKind) (payload new : ℕ) (after : MachineMind)
-        → (machine_step b mind kind payload ≡ Some (new, after)) ↔ PackedStep (MachineStep b mind) kind payload new after }
+        → (machine_step b mind kind payload ≡ Some (new, after)) ↔ PackedStep
+        (MachineStep b mind) kind payload new after }
     ensures one { (b : BoxId) (mind : MachineMind) (word next other : Word) (after last : MachineMind)
         → MachineStep b mind word next after → MachineStep b mind word other last → (next ≡ other) × (after ≡ last) }
 {}

@@ -40,10 +40,14 @@ module _ (table : TrainTable) (row : StepRow) (step left refused : ℕ) where
   denied_lock : IsTrainMind table (mind_of step Lock true left refused) → IsTrainMind table (denied DropFar (mind_of step Lock true left refused))
   denied_lock h = let few = h.few in on_route table _ (h.on_route refl) (omega arith)
 
-  denied_parts : (job next : Job) → after_no row job ≡ Some next → IsTrainMind table (mind_of step job true left refused) → IsTrainMind table (denied next (mind_of step job true left refused))
-  denied_parts Near next e h = let P : Job → Type 0 = λ j. IsTrainMind table (denied j (mind_of step Near true left refused)) in subst P (same_Some _ next e) (denied_near h)
-  denied_parts Far next e h = let P : Job → Type 0 = λ j. IsTrainMind table (denied j (mind_of step Far true left refused)) in subst P (same_Some _ next e) (denied_far h)
-  denied_parts Lock next e h = let P : Job → Type 0 = λ j. IsTrainMind table (denied j (mind_of step Lock true left refused)) in subst P (same_Some _ next e) (denied_lock h)
+  denied_parts : (job next : Job) → after_no row job ≡ Some next → IsTrainMind table (mind_of step job true left refused)
+      → IsTrainMind table (denied next (mind_of step job true left refused))
+  denied_parts Near next e h = let P : Job → Type 0 = λ j. IsTrainMind table (denied j (mind_of step Near true left refused)) in
+      subst P (same_Some _ next e) (denied_near h)
+  denied_parts Far next e h = let P : Job → Type 0 = λ j. IsTrainMind table (denied j (mind_of step Far true left refused)) in
+      subst P (same_Some _ next e) (denied_far h)
+  denied_parts Lock next e h = let P : Job → Type 0 = λ j. IsTrainMind table (denied j (mind_of step Lock true left refused)) in
+      subst P (same_Some _ next e) (denied_lock h)
   denied_parts Pass next e h = absurd (cc)
   denied_parts Unlock next e h = absurd (cc)
   denied_parts FreeNear next e h = absurd (cc)
@@ -52,7 +56,8 @@ module _ (table : TrainTable) (row : StepRow) (step left refused : ℕ) where
   denied_parts DropNear next e h = absurd (cc)
 
 module _ (table : TrainTable) (step left refused : ℕ) where
-  posted_near : IsTrainMind table (mind_of step Near false left refused) → is_resting table (mind_of step Near false left refused) ≡ false → IsTrainMind table (posted (mind_of step Near false left refused))
+  posted_near : IsTrainMind table (mind_of step Near false left refused) → is_resting table (mind_of step Near false left refused) ≡ false
+      → IsTrainMind table (posted (mind_of step Near false left refused))
   posted_near h r =
       let ends = or_parts (step == length table.rows) (left == 0) r in
       let more = eqb-false step (length table.rows) ends.0 in
@@ -61,7 +66,8 @@ module _ (table : TrainTable) (step left refused : ℕ) where
       let few = h.few in
       on_route table _ (omega arith) (omega arith)
 
-  posted_parts : (job : Job) → IsTrainMind table (mind_of step job false left refused) → is_resting table (mind_of step job false left refused) ≡ false → IsTrainMind table (posted (mind_of step job false left refused))
+  posted_parts : (job : Job) → IsTrainMind table (mind_of step job false left refused) → is_resting table (mind_of step job false left refused) ≡ false
+      → IsTrainMind table (posted (mind_of step job false left refused))
   posted_parts Near h r = posted_near h r
   posted_parts Far h r = on_route table _ (h.on_route refl) h.few
   posted_parts Lock h r = on_route table _ (h.on_route refl) h.few
@@ -73,32 +79,39 @@ module _ (table : TrainTable) (step left refused : ℕ) where
   posted_parts DropNear h r = on_route table _ (h.on_route refl) h.few
 
 -- a mind of which it is known whether it waits
-known : (table : TrainTable) (mind : TrainMind) (waits : Bool) → mind.waits ≡ waits → IsTrainMind table mind → IsTrainMind table (mind_of mind.step mind.job waits mind.left mind.refused)
+known : (table : TrainTable) (mind : TrainMind) (waits : Bool) → mind.waits ≡ waits → IsTrainMind table mind
+    → IsTrainMind table (mind_of mind.step mind.job waits mind.left mind.refused)
 known table mind waits w h = subst (λ b. IsTrainMind table (mind_of mind.step mind.job b mind.left mind.refused)) w h
 
 pub heard_kept : (table : TrainTable) (row : StepRow) (mind : TrainMind) → IsTrainMind table mind → mind.waits ≡ true → IsTrainMind table (heard row mind)
 heard_kept table row mind h w = heard_parts table row mind.step mind.left mind.refused mind.job (known table mind true w h)
 
-pub denied_kept : (table : TrainTable) (row : StepRow) (mind : TrainMind) (next : Job) → IsTrainMind table mind → mind.waits ≡ true → after_no row mind.job ≡ Some next → IsTrainMind table (denied next mind)
+pub denied_kept : (table : TrainTable) (row : StepRow) (mind : TrainMind) (next : Job) → IsTrainMind table mind → mind.waits ≡ true
+    → after_no row mind.job ≡ Some next → IsTrainMind table (denied next mind)
 denied_kept table row mind next h w e = denied_parts table row mind.step mind.left mind.refused mind.job next e (known table mind true w h)
 
-pub posted_kept : (table : TrainTable) (mind : TrainMind) → IsTrainMind table mind → mind.waits ≡ false → is_resting table mind ≡ false → IsTrainMind table (posted mind)
+pub posted_kept : (table : TrainTable) (mind : TrainMind) → IsTrainMind table mind → mind.waits ≡ false → is_resting table mind ≡ false
+    → IsTrainMind table (posted mind)
 posted_kept table mind h w r =
-    let resting : is_resting table (mind_of mind.step mind.job false mind.left mind.refused) ≡ false = subst (λ b. is_resting table (mind_of mind.step mind.job b mind.left mind.refused) ≡ false) w r in
+    let resting : is_resting table (mind_of mind.step mind.job false mind.left mind.refused) ≡ false =
+    subst (λ b. is_resting table (mind_of mind.step mind.job b mind.left mind.refused) ≡ false) w r in
     posted_parts table mind.step mind.left mind.refused mind.job (known table mind false w h) resting
 
 -- who passes is on the route
 pub passing_on_route : (table : TrainTable) (mind : TrainMind) → IsTrainMind table mind → mind.job ≡ Pass → mind.step < length table.rows
 passing_on_route table mind h is = h.on_route (rw is refl)
 
-gone_parts : (table : TrainTable) (step left refused : ℕ) (waits : Bool) → IsTrainMind table (mind_of step Pass waits left refused) → IsTrainMind table (mind_of step Pass true left refused)
+gone_parts : (table : TrainTable) (step left refused : ℕ) (waits : Bool) → IsTrainMind table (mind_of step Pass waits left refused)
+    → IsTrainMind table (mind_of step Pass true left refused)
 gone_parts table step left refused waits h = on_route table _ (h.on_route refl) h.few
 
-quiet_parts : (table : TrainTable) (step left refused : ℕ) (waits : Bool) → IsTrainMind table (mind_of step Pass waits left refused) → IsTrainMind table (mind_of step Unlock false left refused)
+quiet_parts : (table : TrainTable) (step left refused : ℕ) (waits : Bool) → IsTrainMind table (mind_of step Pass waits left refused)
+    → IsTrainMind table (mind_of step Unlock false left refused)
 quiet_parts table step left refused waits h = on_route table _ (h.on_route refl) h.few
 
 -- a mind of which the job is known
-passing : (table : TrainTable) (mind : TrainMind) → mind.job ≡ Pass → IsTrainMind table mind → IsTrainMind table (mind_of mind.step Pass mind.waits mind.left mind.refused)
+passing : (table : TrainTable) (mind : TrainMind) → mind.job ≡ Pass → IsTrainMind table mind
+    → IsTrainMind table (mind_of mind.step Pass mind.waits mind.left mind.refused)
 passing table mind is h = subst (λ j. IsTrainMind table (mind_of mind.step j mind.waits mind.left mind.refused)) is h
 
 pub gone_kept : (table : TrainTable) (mind : TrainMind) → IsTrainMind table mind → mind.job ≡ Pass → IsTrainMind table (record mind { waits = true })
@@ -106,5 +119,6 @@ gone_kept table mind h is =
     let at : Job → Type 0 = λ j. IsTrainMind table (mind_of mind.step j true mind.left mind.refused) in
     subst at (sym is) (gone_parts table mind.step mind.left mind.refused mind.waits (passing table mind is h))
 
-pub quiet_kept : (table : TrainTable) (mind : TrainMind) → IsTrainMind table mind → mind.job ≡ Pass → IsTrainMind table (record mind { waits = false; job = Unlock })
+pub quiet_kept : (table : TrainTable) (mind : TrainMind) → IsTrainMind table mind → mind.job ≡ Pass
+    → IsTrainMind table (record mind { waits = false; job = Unlock })
 quiet_kept table mind h is = quiet_parts table mind.step mind.left mind.refused mind.waits (passing table mind is h)

@@ -57,7 +57,8 @@ module _ (table : TrainTable) (mind : TrainMind) where
   abbrev Mails : MailWord → MailWord × TrainMind → Type 0
   Mails v r = TrainStep table mind (Mail table.number v) (Mail table.number r.0) r.1
 
-  mail_front : ComparesLetters → (v : MailWord) (row : StepRow) (r : MailWord × TrainMind) → row_of table mind ≡ Some row → mail_turn table mind v row ≡ Some r → Mails v r
+  mail_front : ComparesLetters → (v : MailWord) (row : StepRow) (r : MailWord × TrainMind) → row_of table mind ≡ Some row → mail_turn table mind v row ≡ Some r
+      → Mails v r
   mail_front same Empty row r here e =
       let off = unless _ _ _ e in
       let tests = or_parts mind.waits _ off.0 in
@@ -133,7 +134,8 @@ module _ (table : TrainTable) (mind : TrainMind) where
       let to : Word × TrainMind → Type 0 = λ q. TrainStep table mind (Sense t v) q.0 q.1 in
       subst to m.2 (subst of own (on_sense_front v m.0 m.1))
 
-pub train_front : ComparesLetters → (table : TrainTable) (mind : TrainMind) (word next : Word) (after : TrainMind) → train_on table mind word ≡ Some (next, after) → TrainStep table mind word next after
+pub train_front : ComparesLetters → (table : TrainTable) (mind : TrainMind) (word next : Word) (after : TrainMind)
+    → train_on table mind word ≡ Some (next, after) → TrainStep table mind word next after
 train_front same table mind word next after e = front table mind same word (next, after) e
 
 -- From the sentences to the function.
@@ -144,7 +146,8 @@ asks_own : ComparesItself → (own : Option Letter) (l : Letter) → own ≡ Som
 asks_own same own l e = let letter = same l in rw (e, letter) refl
 
 module _ (table : TrainTable) (mind : TrainMind) where
-  mail_back : (v : MailWord) (row : StepRow) (r : MailWord × TrainMind) → row_of table mind ≡ Some row → mail_turn table mind v row ≡ Some r → train_on table mind (Mail table.number v) ≡ Some (Mail table.number r.0, r.1)
+  mail_back : (v : MailWord) (row : StepRow) (r : MailWord × TrainMind) → row_of table mind ≡ Some row → mail_turn table mind v row ≡ Some r
+      → train_on table mind (Mail table.number v) ≡ Some (Mail table.number r.0, r.1)
   mail_back v row r here e =
       let on : on_mail table mind v ≡ Some r = ap (option_and_then (mail_turn table mind v)) here ∙ e in
       rw (itself table.number.0, on) refl
@@ -152,7 +155,8 @@ module _ (table : TrainTable) (mind : TrainMind) where
   run_back : (v : RunWord) (r : RunWord × TrainMind) → on_run mind v ≡ Some r → train_on table mind (Run table.number v) ≡ Some (Run table.number r.0, r.1)
   run_back v r e = rw (itself table.number.0, e) refl
 
-  sense_back : (v : SenseWord) (r : SenseWord × TrainMind) → on_sense mind v ≡ Some r → train_on table mind (Sense table.number v) ≡ Some (Sense table.number r.0, r.1)
+  sense_back : (v : SenseWord) (r : SenseWord × TrainMind) → on_sense mind v ≡ Some r
+      → train_on table mind (Sense table.number v) ≡ Some (Sense table.number r.0, r.1)
   sense_back v r e = rw (itself table.number.0, e) refl
 
   back : ComparesItself → (word next : Word) (after : TrainMind) → TrainStep table mind word next after → train_on table mind word ≡ Some (next, after)
@@ -166,11 +170,13 @@ module _ (table : TrainTable) (mind : TrainMind) where
       let on : (mind.waits && asks row mind.job l) ≡ true = and_from mind.waits _ waits (asks_own same (letter row mind.job) l is) in
       mail_back (No l u) row (Empty, denied next mind) here (rw (on, then_job) refl)
   back same _ _ _ (go is waits) =
-      let on : (is_pass mind.job && (not mind.waits && mind.step == mind.step)) ≡ true = and_from _ _ (ap is_pass is) (and_from _ _ (not_from_false _ waits) (itself mind.step)) in
+      let on : (is_pass mind.job && (not mind.waits && mind.step == mind.step)) ≡ true =
+      and_from _ _ (ap is_pass is) (and_from _ _ (not_from_false _ waits) (itself mind.step)) in
       run_back (Clear mind.step) (Go mind.step, record mind { waits = true }) (rw on refl)
   back same _ _ _ (quiet is waits) =
       let on : (is_pass mind.job && (mind.waits && mind.step == mind.step)) ≡ true = and_from _ _ (ap is_pass is) (and_from _ _ waits (itself mind.step)) in
       sense_back (Tail mind.step) (Quiet (mind.step + 1), record mind { waits = false; job = Unlock }) (rw on refl)
 
-pub train_back : ComparesItself → (table : TrainTable) (mind : TrainMind) (word next : Word) (after : TrainMind) → TrainStep table mind word next after → train_on table mind word ≡ Some (next, after)
+pub train_back : ComparesItself → (table : TrainTable) (mind : TrainMind) (word next : Word) (after : TrainMind) → TrainStep table mind word next after
+    → train_on table mind word ≡ Some (next, after)
 train_back same table mind word next after p = back table mind same word next after p

@@ -26,18 +26,25 @@ use Rattle.rl_train.specs.Steps.TrainStep.{post, hear_yes, hear_no, go, quiet}
 use Rattle.rl_train.proofs.KeptLemmas.{heard_kept, denied_kept, posted_kept, passing_on_route, gone_kept, quiet_kept}
 use Rattle.rl_train.proofs.Sentences.{ComparesLetters, ComparesItself, train_front, train_back}
 
-pub step_front : ComparesLetters → (table : TrainTable) (mind : TrainMind) (kind : WordKind) (payload new : ℕ) (after : TrainMind) → train_step table mind kind payload ≡ Some (new, after) → PackedStep (TrainStep table mind) kind payload new after
+pub step_front : ComparesLetters → (table : TrainTable) (mind : TrainMind) (kind : WordKind) (payload new : ℕ) (after : TrainMind)
+    → train_step table mind kind payload ≡ Some (new, after) → PackedStep (TrainStep table mind) kind payload new after
 unfolding train_step
-step_front same table mind kind payload new after e = packed_by _ _ kind payload new after (train_front same table mind) (packed_front (train_on table mind) kind payload new after e)
+step_front same table mind kind payload new after e =
+    packed_by _ _ kind payload new after (train_front same table mind) (packed_front (train_on table mind) kind payload new after e)
 
-pub step_back : ComparesItself → (table : TrainTable) (mind : TrainMind) (kind : WordKind) (payload new : ℕ) (after : TrainMind) → PackedStep (TrainStep table mind) kind payload new after → train_step table mind kind payload ≡ Some (new, after)
+pub step_back : ComparesItself → (table : TrainTable) (mind : TrainMind) (kind : WordKind) (payload new : ℕ) (after : TrainMind)
+    → PackedStep (TrainStep table mind) kind payload new after → train_step table mind kind payload ≡ Some (new, after)
 unfolding train_step
-step_back same table mind kind payload new after p = packed_back (train_on table mind) kind payload new after (packed_by _ _ kind payload new after (train_back same table mind) p)
+step_back same table mind kind payload new after p =
+    packed_back (train_on table mind) kind payload new after (packed_by _ _ kind payload new after (train_back same table mind) p)
 
-pub one_step : ComparesItself → (table : TrainTable) (mind : TrainMind) (word next other : Word) (after last : TrainMind) → TrainStep table mind word next after → TrainStep table mind word other last → (next ≡ other) × (after ≡ last)
-one_step same table mind word next other after last p q = some_pair_parts next other after last (sym (train_back same table mind word next after p) ∙ train_back same table mind word other last q)
+pub one_step : ComparesItself → (table : TrainTable) (mind : TrainMind) (word next other : Word) (after last : TrainMind) → TrainStep table mind word next after
+    → TrainStep table mind word other last → (next ≡ other) × (after ≡ last)
+one_step same table mind word next other after last p q =
+    some_pair_parts next other after last (sym (train_back same table mind word next after p) ∙ train_back same table mind word other last q)
 
-owner : (table : TrainTable) (mind : TrainMind) (word next : Word) (after : TrainMind) → TrainStep table mind word next after → word_owner word ≡ nodes.Train table.number
+owner : (table : TrainTable) (mind : TrainMind) (word next : Word) (after : TrainMind) → TrainStep table mind word next after
+    → word_owner word ≡ nodes.Train table.number
 owner table mind _ _ _ (post row l here is waits rests) = refl
 owner table mind _ _ _ (hear_yes row l here is waits) = refl
 owner table mind _ _ _ (hear_no row l u next here is then_job waits) = refl
@@ -52,7 +59,8 @@ same_kind table mind _ _ _ (go is waits) = refl
 same_kind table mind _ _ _ (quiet is waits) = refl
 
 -- the word of a train's step is one of its own
-has_word : (lay : Layout) (table : TrainTable) (mind : TrainMind) (word next : Word) (after : TrainMind) → table.number.0 < lay.trains → TrainStep table mind word next after → HasWord lay (kind_of word)
+has_word : (lay : Layout) (table : TrainTable) (mind : TrainMind) (word next : Word) (after : TrainMind) → table.number.0 < lay.trains
+    → TrainStep table mind word next after → HasWord lay (kind_of word)
 has_word lay table mind _ _ _ there (post row l here is waits rests) = there
 has_word lay table mind _ _ _ there (hear_yes row l here is waits) = there
 has_word lay table mind _ _ _ there (hear_no row l u next here is then_job waits) = there
@@ -78,10 +86,12 @@ waiting_on table mind waits = and_right (is_near mind.job) _ (rw waits refl)
 passing_on : (table : TrainTable) (mind : TrainMind) → mind.job ≡ Pass → is_resting table mind ≡ false
 passing_on table mind is = rw is refl
 
-at_mail : (table : TrainTable) (mind : TrainMind) → is_resting table mind ≡ false → is_pass mind.job ≡ false → train_target table mind ≡ Some (kinds.Mail table.number)
+at_mail : (table : TrainTable) (mind : TrainMind) → is_resting table mind ≡ false → is_pass mind.job ≡ false
+    → train_target table mind ≡ Some (kinds.Mail table.number)
 at_mail table mind rests pass = rw (rests, pass) refl
 
-looks : (table : TrainTable) (mind : TrainMind) (word next : Word) (after : TrainMind) → TrainStep table mind word next after → train_target table mind ≡ Some (kind_of word)
+looks : (table : TrainTable) (mind : TrainMind) (word next : Word) (after : TrainMind) → TrainStep table mind word next after
+    → train_target table mind ≡ Some (kind_of word)
 looks table mind _ _ _ (post row l here is waits rests) = at_mail table mind rests (not_pass row mind.job l is)
 looks table mind _ _ _ (hear_yes row l here is waits) = at_mail table mind (waiting_on table mind waits) (not_pass row mind.job l is)
 looks table mind _ _ _ (hear_no row l u next here is then_job waits) = at_mail table mind (waiting_on table mind waits) (not_pass row mind.job l is)
@@ -106,7 +116,8 @@ letter_fits row FreeFar l n e = subst FitsLetter (same_Some _ l e) (record { to 
 letter_fits row DropFar l n e = subst FitsLetter (same_Some _ l e) (record { to = n.c; x = n.c_arm; y = omega arith; arms = refl })
 letter_fits row DropNear l n e = subst FitsLetter (same_Some _ l e) (record { to = n.b; x = n.y; y = omega arith; arms = refl })
 
-kept : (table : TrainTable) (mind : TrainMind) (word next : Word) (after : TrainMind) → IsUsable table → IsTrainMind table mind → TrainStep table mind word next after → FitsWord next × IsTrainMind table after
+kept : (table : TrainTable) (mind : TrainMind) (word next : Word) (after : TrainMind) → IsUsable table → IsTrainMind table mind
+    → TrainStep table mind word next after → FitsWord next × IsTrainMind table after
 kept table mind _ _ _ u h (post row l here is waits rests) = (letter_fits row mind.job l (u.rows mind.step row here) is, posted_kept table mind h waits rests)
 kept table mind _ _ _ u h (hear_yes row l here is waits) = (tt, heard_kept table row mind h waits)
 kept table mind _ _ _ u h (hear_no row l holder next here is then_job waits) = (tt, denied_kept table row mind next h waits then_job)
@@ -127,9 +138,12 @@ abbrev pub PacksSmall : Type 0
 PacksSmall = (word : Word) → FitsWord word → packed_word word < 2 ^ 32
 
 abbrev pub OwnsWords : Type 0
-OwnsWords = (lay : Layout) (word : Word) → HasWord lay (kind_of word) → HasNode lay (word_owner word) → FitsWord word → Owns lay (word_number lay (kind_of word)) (packed_word word) (node_number lay (word_owner word))
+OwnsWords = (lay : Layout) (word : Word) → HasWord lay (kind_of word) → HasNode lay (word_owner word) → FitsWord word
+    → Owns lay (word_number lay (kind_of word)) (packed_word word) (node_number lay (word_owner word))
 
-pub keeps : ComparesLetters → ReadsWords → PacksSmall → OwnsWords → (lay : Layout) (table : TrainTable) (mind : TrainMind) (kind : WordKind) (payload new : ℕ) (after : TrainMind) → IsTrainOn lay table mind → train_step table mind kind payload ≡ Some (new, after) → KeepsTrain lay table mind kind payload new after
+pub keeps : ComparesLetters → ReadsWords → PacksSmall → OwnsWords
+    → (lay : Layout) (table : TrainTable) (mind : TrainMind) (kind : WordKind) (payload new : ℕ) (after : TrainMind) → IsTrainOn lay table mind
+    → train_step table mind kind payload ≡ Some (new, after) → KeepsTrain lay table mind kind payload new after
 keeps same reads small owns lay table mind kind payload new after on e =
     let p = step_front same table mind kind payload new after e in
     let r = reads kind payload p.seen p.reads in

@@ -20,7 +20,8 @@ pub record IsTrainOn (lay : Layout) (table : TrainTable) (mind : TrainMind) : Ty
   pub mind_is : IsTrainMind table mind
 
 -- a step changes the word that the train looks at and owns, leaves a value of that word there, and a well-formed mind
-pub record KeepsTrain (lay : Layout) (table : TrainTable) (mind : TrainMind) (kind : WordKind) (payload new : ℕ) (after : TrainMind) : Type 0 where
+pub record KeepsTrain (lay : Layout) (table : TrainTable) (mind : TrainMind) (kind : WordKind) (payload new : ℕ)
+    (after : TrainMind) : Type 0 where
   pub target : train_target table mind ≡ Some kind
   pub owned : Owns lay (word_number lay kind) payload (node_number lay (nodes.Train table.number))
   pub seen : Word

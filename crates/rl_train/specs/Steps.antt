@@ -27,7 +27,12 @@ posted mind = record mind { waits = true; left = if is_near mind.job then mind.l
 -- after yes
 abbrev pub heard : StepRow → TrainMind → TrainMind
 heard row mind =
-    record mind { waits = false; job = after_yes row mind.job; step = if ends_step mind.job then mind.step + 1 else mind.step }
+    record mind {
+      waits = false;
+      job = after_yes row mind.job;
+      step =
+          if ends_step mind.job then mind.step + 1 else mind.step;
+    }
 
 -- after no, with the job that comes then
 abbrev pub denied : Job → TrainMind → TrainMind

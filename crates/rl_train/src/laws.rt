@@ -18,7 +18,8 @@ pub fn train_lines()
     ensures words { (table : TrainTable) (mind : TrainMind) (word next : Word) (after : TrainMind)
         → (train_on table mind word ≡ Some (next, after)) ↔ TrainStep table mind word next after }
     ensures payloads { (table : TrainTable) (mind : TrainMind) (kind : WordKind) (payload new : ℕ) (after : TrainMind)
-        → (train_step table mind kind payload ≡ Some (new, after)) ↔ PackedStep (TrainStep table mind) kind payload new after }
+        → (train_step table mind kind payload ≡ Some (new, after)) ↔ PackedStep
+        (TrainStep table mind) kind payload new after }
     ensures one { (table : TrainTable) (mind : TrainMind) (word next other : Word) (after last : TrainMind)
         → TrainStep table mind word next after → TrainStep table mind word other last
         → (next ≡ other) × (after ≡ last) }
@@ -30,7 +31,8 @@ pub fn train_lines()
 /// A step of a train changes the word that it looks at and owns, leaves a value of that word there, and a
 /// well-formed mind.
 pub fn train_steps()
-    ensures { (lay : Layout) (table : TrainTable) (mind : TrainMind) (kind : WordKind) (payload new : ℕ) (after : TrainMind)
+    ensures { (lay : Layout) (table : TrainTable) (mind : TrainMind) (kind : WordKind) (payload new : ℕ)
+        (after : TrainMind)
         → IsTrainOn lay table mind → train_step table mind kind payload ≡ Some (new, after)
         → KeepsTrain lay table mind kind payload new after }
 {

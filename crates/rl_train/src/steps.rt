@@ -42,7 +42,8 @@ impl TrainMind {
     pub fn act(&self, t: &TrainTable, payload: u32) -> Option<(u32, TrainMind)>
         requires table { IsUsable t.now }
         requires mind { IsTrainMind t.now self.now }
-        ensures step { result ≡ option_and_then (λ kind. train_step t.now self.now kind payload) (train_target t.now self.now) }
+        ensures step { result ≡ option_and_then (λ kind. train_step t.now self.now kind payload)
+            (train_target t.now self.now) }
         ensures kept { IfSome result (λ r. IsTrainMind t.now r.1) }
     {
         if !is_pass(self.job) {

@@ -62,5 +62,6 @@ field-with_field_below x i n v j m fits above =
 -- to write what a field says already changes nothing
 pub with_field_same : (x i n : ℕ) → with_field x i n (field x i n) ≡ x
 with_field_same x i n =
-    let split : x % 2 ^ (i + n) ≡ field x i n * 2 ^ i + x % 2 ^ i = ap (λ j. x % 2 ^ j) (let turned : i + n ≡ n + i = omega arith in turned) ∙ mod-pow-add x n i in
+    let split : x % 2 ^ (i + n) ≡ field x i n * 2 ^ i + x % 2 ^ i =
+    ap (λ j. x % 2 ^ j) (let turned : i + n ≡ n + i = omega arith in turned) ∙ mod-pow-add x n i in
     omega (arith, split, shr_split x (i + n))

@@ -32,7 +32,8 @@ same_box b c e = let id : ℕ → BoxId = λ n. record { 0 = n } in ap id e
 same_arm : (x y : Arm) → x.0 ≡ y.0 → x ≡ y
 same_arm x y e = let id : ℕ → Arm = λ n. record { 0 = n } in ap id e
 
-letter_parts : (b c : BoxId) (v w : Verb) (x x' y y' : Arm) → b ≡ c → v ≡ w → x ≡ x' → y ≡ y' → (let made : Letter = record { to = b; verb = v; x = x; y = y } in made) ≡ record { to = c; verb = w; x = x'; y = y' }
+letter_parts : (b c : BoxId) (v w : Verb) (x x' y y' : Arm) → b ≡ c → v ≡ w → x ≡ x' → y ≡ y'
+    → (let made : Letter = record { to = b; verb = v; x = x; y = y } in made) ≡ record { to = c; verb = w; x = x'; y = y' }
 letter_parts b c v w x x' y y' eb ev ex ey = cc
 
 pub same_letter-true : (a b : Letter) → same_letter a b ≡ true → a ≡ b
@@ -47,4 +48,5 @@ same_letter-true a b h =
     (same_arm a.y b.y (eqb-true _ _ h2.1))
 
 pub same_letter_itself : (a : Letter) → same_letter a a ≡ true
-same_letter_itself a = and_from _ _ (eq-eqb a.to.0 a.to.0 refl) (and_from _ _ (eq-eqb (verb_code a.verb) (verb_code a.verb) refl) (and_from _ _ (eq-eqb a.x.0 a.x.0 refl) (eq-eqb a.y.0 a.y.0 refl)))
+same_letter_itself a = and_from _ _ (eq-eqb a.to.0 a.to.0 refl)
+    (and_from _ _ (eq-eqb (verb_code a.verb) (verb_code a.verb) refl) (and_from _ _ (eq-eqb a.x.0 a.x.0 refl) (eq-eqb a.y.0 a.y.0 refl)))

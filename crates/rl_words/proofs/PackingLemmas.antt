@@ -43,7 +43,8 @@ same_holder (Some t) None e = absurd (omega arith)
 same_holder (Some t) (Some u) e = ap Some (same_train t u (omega arith))
 
 -- a word is its four arms
-resv_parts : (a b c d a' b' c' d' : Option TrainId) → a ≡ a' → b ≡ b' → c ≡ c' → d ≡ d' → (let made : ResvWord = record { arm0 = a; arm1 = b; arm2 = c; arm3 = d } in made) ≡ record { arm0 = a'; arm1 = b'; arm2 = c'; arm3 = d' }
+resv_parts : (a b c d a' b' c' d' : Option TrainId) → a ≡ a' → b ≡ b' → c ≡ c' → d ≡ d'
+    → (let made : ResvWord = record { arm0 = a; arm1 = b; arm2 = c; arm3 = d } in made) ≡ record { arm0 = a'; arm1 = b'; arm2 = c'; arm3 = d' }
 resv_parts a b c d a' b' c' d' ea eb ec ed = cc
 
 pub same_resv : (v w : ResvWord) → FitsResv v → FitsResv w → packed_resv v ≡ packed_resv w → v ≡ w
@@ -75,7 +76,8 @@ same_sense (Tail j) (Tail k) fv fw e = ap Tail (omega arith)
 same_sense v w fv fw e = absurd (omega arith)
 
 -- a path is its three parts
-path_parts : (t t' : TrainId) (x x' y y' : Arm) → t ≡ t' → x ≡ x' → y ≡ y' → (let made : Path = record { train = t; x = x; y = y } in made) ≡ record { train = t'; x = x'; y = y' }
+path_parts : (t t' : TrainId) (x x' y y' : Arm) → t ≡ t' → x ≡ x' → y ≡ y'
+    → (let made : Path = record { train = t; x = x; y = y } in made) ≡ record { train = t'; x = x'; y = y' }
 path_parts t t' x x' y y' et ex ey = cc
 
 -- two paths never share their fields
@@ -101,7 +103,8 @@ same_verb Unlock Unlock e = refl
 same_verb v w e = absurd (omega arith)
 
 -- a letter is its four parts
-letter_parts : (b b' : BoxId) (v v' : Verb) (x x' y y' : Arm) → b ≡ b' → v ≡ v' → x ≡ x' → y ≡ y' → (let made : Letter = record { to = b; verb = v; x = x; y = y } in made) ≡ record { to = b'; verb = v'; x = x'; y = y' }
+letter_parts : (b b' : BoxId) (v v' : Verb) (x x' y y' : Arm) → b ≡ b' → v ≡ v' → x ≡ x' → y ≡ y'
+    → (let made : Letter = record { to = b; verb = v; x = x; y = y } in made) ≡ record { to = b'; verb = v'; x = x'; y = y' }
 letter_parts b b' v v' x x' y y' eb ev ex ey = cc
 
 -- two letters never share their fields
@@ -109,7 +112,8 @@ same_letter : (l m : Letter) → FitsLetter l → FitsLetter m → packed_letter
 same_letter l m fl fm e =
     let vl = verb_code-lt l.verb in
     let vm = verb_code-lt m.verb in
-    letter_parts l.to m.to l.verb m.verb l.x m.x l.y m.y (same_box l.to m.to (omega arith)) (same_verb l.verb m.verb (omega arith)) (same_arm l.x m.x (omega arith)) (same_arm l.y m.y (omega arith))
+    letter_parts l.to m.to l.verb m.verb l.x m.x l.y m.y (same_box l.to m.to (omega arith)) (same_verb l.verb m.verb (omega arith))
+    (same_arm l.x m.x (omega arith)) (same_arm l.y m.y (omega arith))
 
 pub same_mail : (v w : MailWord) → FitsMail v → FitsMail w → packed_mail v ≡ packed_mail w → v ≡ w
 same_mail Empty Empty fv fw e = refl

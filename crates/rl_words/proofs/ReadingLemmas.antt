@@ -29,13 +29,15 @@ use Rattle.rl_words.proofs.MailLemmas.{verb_code-lt}
 use Rattle.rl_words.proofs.ResvLemmas.{arm_code-lt}
 
 -- what passes both tests is read
-kept : {A : Type 0} (fits : A → Bool) (packed : A → ℕ) (found v : A) (n : ℕ) → found ≡ v → fits v ≡ true → packed v ≡ n → only_if (fits found && packed found == n) found ≡ Some v
+kept : {A : Type 0} (fits : A → Bool) (packed : A → ℕ) (found v : A) (n : ℕ) → found ≡ v → fits v ≡ true → packed v ≡ n
+    → only_if (fits found && packed found == n) found ≡ Some v
 kept fits packed found v n same fit e =
     let ok : (fits found && packed found == n) ≡ true = and_from _ _ (ap fits same ∙ fit) (eq-eqb (packed found) n (ap packed same ∙ e)) in
     cond-true _ (Some found) None ok ∙ ap Some same
 
 -- and nothing else
-only : {A : Type 0} (fits : A → Bool) (packed : A → ℕ) (found v : A) (n : ℕ) → only_if (fits found && packed found == n) found ≡ Some v → (fits v ≡ true) × (packed v ≡ n)
+only : {A : Type 0} (fits : A → Bool) (packed : A → ℕ) (found v : A) (n : ℕ) → only_if (fits found && packed found == n) found ≡ Some v
+    → (fits v ≡ true) × (packed v ≡ n)
 only fits packed found v n e =
     let both = cond_some _ found v e in
     let tests = and_parts _ _ both.0 in
@@ -59,7 +61,8 @@ holder_at-code zero (Some t) e = absurd (omega arith)
 holder_at-code (suc n) None e = absurd (omega arith)
 holder_at-code (suc n) (Some t) e = let same : n ≡ t.0 = omega arith in ap Some (train-same n t same)
 
-resv_parts : (a b c d a' b' c' d' : Option TrainId) → a ≡ a' → b ≡ b' → c ≡ c' → d ≡ d' → (let made : ResvWord = record { arm0 = a; arm1 = b; arm2 = c; arm3 = d } in made) ≡ record { arm0 = a'; arm1 = b'; arm2 = c'; arm3 = d' }
+resv_parts : (a b c d a' b' c' d' : Option TrainId) → a ≡ a' → b ≡ b' → c ≡ c' → d ≡ d'
+    → (let made : ResvWord = record { arm0 = a; arm1 = b; arm2 = c; arm3 = d } in made) ≡ record { arm0 = a'; arm1 = b'; arm2 = c'; arm3 = d' }
 resv_parts a b c d a' b' c' d' ea eb ec ed = cc
 
 resv_at-packed : (w : ResvWord) → FitsResv w → resv_at (packed_resv w) ≡ w
@@ -83,7 +86,8 @@ fits_resv-true w h =
     record { arm0 = fits_arm-true _ h0.0; arm1 = fits_arm-true _ h1.0; arm2 = fits_arm-true _ h2.0; arm3 = fits_arm-true _ h2.1 }
 
 fits_resv_from : (w : ResvWord) → FitsResv w → fits_resv w ≡ true
-fits_resv_from w f = and_from _ _ (fits_arm_from _ f.arm0) (and_from _ _ (fits_arm_from _ f.arm1) (and_from _ _ (fits_arm_from _ f.arm2) (fits_arm_from _ f.arm3)))
+fits_resv_from w f = and_from _ _ (fits_arm_from _ f.arm0)
+    (and_from _ _ (fits_arm_from _ f.arm1) (and_from _ _ (fits_arm_from _ f.arm2) (fits_arm_from _ f.arm3)))
 
 pub read_resv-packed : (v : ResvWord) → FitsResv v → read_resv (packed_resv v) ≡ Some v
 unfolding read_resv
@@ -104,7 +108,8 @@ fits_path-true p h =
 fits_path_from : (p : Path) → FitsPath p → fits_path p ≡ true
 fits_path_from p f = and_from _ _ (lt-ltb _ _ f.train) (and_from _ _ (lt-ltb _ _ f.x) (and_from _ _ (lt-ltb _ _ f.y) (not_from_false _ (ne_eqb _ _ f.apart))))
 
-path_parts : (t x y : ℕ) (p : Path) → t ≡ p.train.0 → x ≡ p.x.0 → y ≡ p.y.0 → (let made : Path = record { train = train_id t; x = arm_id x; y = arm_id y } in made) ≡ p
+path_parts : (t x y : ℕ) (p : Path) → t ≡ p.train.0 → x ≡ p.x.0 → y ≡ p.y.0
+    → (let made : Path = record { train = train_id t; x = arm_id x; y = arm_id y } in made) ≡ p
 path_parts t x y p et ex ey = rw (et, ex, ey) refl
 
 -- a path in the bits above a tag
@@ -185,7 +190,8 @@ verb_at-code n Release e = ap verb_at e
 verb_at-code n Lock e = ap verb_at e
 verb_at-code n Unlock e = ap verb_at e
 
-letter_parts : (b x y : ℕ) (verb : Verb) (l : Letter) → b ≡ l.to.0 → verb ≡ l.verb → x ≡ l.x.0 → y ≡ l.y.0 → (let made : Letter = record { to = record { 0 = b }; verb = verb; x = arm_id x; y = arm_id y } in made) ≡ l
+letter_parts : (b x y : ℕ) (verb : Verb) (l : Letter) → b ≡ l.to.0 → verb ≡ l.verb → x ≡ l.x.0 → y ≡ l.y.0
+    → (let made : Letter = record { to = record { 0 = b }; verb = verb; x = arm_id x; y = arm_id y } in made) ≡ l
 letter_parts b x y verb l eb ev ex ey = rw (eb, ev, ex, ey) refl
 
 -- a letter in the bits between a tag and a holder
@@ -220,7 +226,8 @@ fits_mail-true Empty h = tt
 fits_mail-true (Ask l) h = fits_letter-true l h
 fits_mail-true (Taken l) h = fits_letter-true l h
 fits_mail-true (Yes l) h = fits_letter-true l h
-fits_mail-true (No l u) h = let h0 = and_parts _ _ h in let h1 = and_parts _ _ h0.1 in (fits_letter-true l h0.0, is_refusable-true l.verb h1.0, ltb-true _ _ h1.1)
+fits_mail-true (No l u) h = let h0 = and_parts _ _ h in let h1 = and_parts _ _ h0.1 in
+    (fits_letter-true l h0.0, is_refusable-true l.verb h1.0, ltb-true _ _ h1.1)
 
 fits_mail_from : (v : MailWord) → FitsMail v → fits_mail v ≡ true
 fits_mail_from Empty h = refl
@@ -297,6 +304,7 @@ none_of None h = refl
 none_of (Some v) h = absurd (h v refl)
 
 -- a reader that finds exactly the fitting packed value reads what is said here
-pub reads : {A : Type 0} (Fits : A → Type 0) (packed : A → ℕ) (read : ℕ → Option A) (n : ℕ) (r : Option A) → ((v : A) → Fits v → read (packed v) ≡ Some v) → ((v : A) → read n ≡ Some v → Fits v × (packed v ≡ n)) → IfSome r (λ v. Fits v × (packed v ≡ n)) → IfNone r ((v : A) → Fits v → packed v ≢ n) → r ≡ read n
+pub reads : {A : Type 0} (Fits : A → Type 0) (packed : A → ℕ) (read : ℕ → Option A) (n : ℕ) (r : Option A) → ((v : A) → Fits v → read (packed v) ≡ Some v)
+    → ((v : A) → read n ≡ Some v → Fits v × (packed v ≡ n)) → IfSome r (λ v. Fits v × (packed v ≡ n)) → IfNone r ((v : A) → Fits v → packed v ≢ n) → r ≡ read n
 reads Fits packed read n None back front some none = none_of (read n) (λ v e. let both = front v e in none v both.0 both.1)
 reads Fits packed read n (Some v) back front some none = sym (ap read (sym some.1) ∙ back v some.0)

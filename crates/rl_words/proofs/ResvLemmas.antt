@@ -28,7 +28,8 @@ field-packed_resv w x fits below =
     four_arms P (omega arith) (omega arith) (omega arith) (omega arith) x below
 
 -- to change an arm is to write that field
-pub packed_resv-with_arm : (w : ResvWord) (x : ℕ) (arm : Option TrainId) → FitsResv w → x < 4 → packed_resv (with_arm w x arm) ≡ with_field (packed_resv w) (6 * x) 6 (arm_code arm)
+pub packed_resv-with_arm : (w : ResvWord) (x : ℕ) (arm : Option TrainId) → FitsResv w → x < 4
+    → packed_resv (with_arm w x arm) ≡ with_field (packed_resv w) (6 * x) 6 (arm_code arm)
 packed_resv-with_arm w x arm fits below =
     let c0 = arm_code-lt w.arm0 fits.arm0 in
     let c1 = arm_code-lt w.arm1 fits.arm1 in

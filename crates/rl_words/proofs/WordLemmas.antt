@@ -86,7 +86,8 @@ changes (Mail t v) fits = (v, fits, refl, refl)
 changes (Run t v) fits = (v, fits, refl, refl)
 changes (Sense t v) fits = (v, fits, refl, refl)
 
-pub word_owned : (lay : Layout) (word : Word) → HasWord lay (kind_of word) → HasNode lay (word_owner word) → FitsWord word → Owns lay (word_number lay (kind_of word)) (packed_word word) (node_number lay (word_owner word))
+pub word_owned : (lay : Layout) (word : Word) → HasWord lay (kind_of word) → HasNode lay (word_owner word) → FitsWord word
+    → Owns lay (word_number lay (kind_of word)) (packed_word word) (node_number lay (word_owner word))
 word_owned lay word there node fits =
     record {
       word = kind_of word;

@@ -96,7 +96,13 @@ verb_at (suc (suc zero)) = Lock
 verb_at (suc (suc (suc n))) = Unlock
 
 abbrev pub letter_at : ℕ → Letter
-letter_at n = record { to = record { 0 = field n 3 7 }; verb = verb_at (field n 10 2); x = arm_id (field n 12 2); y = arm_id (field n 14 2) }
+letter_at n = record {
+  to = record { 0 = field n 3 7 };
+  verb = verb_at (field n 10 2);
+  x = arm_id (field n 12 2);
+  y =
+      arm_id (field n 14 2);
+}
 
 -- by the tag
 abbrev pub mail_tagged : ℕ → Letter → TrainId → MailWord

@@ -30,4 +30,6 @@ arm_in w x = if x == 0 then w.arm0 else (if x == 1 then w.arm1 else (if x == 2 t
 -- the word with arm x held as said, for x below 4
 abbrev pub with_arm : ResvWord → ℕ → Option TrainId → ResvWord
 with_arm w x arm =
-    if x == 0 then record w { arm0 = arm } else (if x == 1 then record w { arm1 = arm } else (if x == 2 then record w { arm2 = arm } else record w { arm3 = arm }))
+    if x == 0 then record w { arm0 = arm } else
+    (if x == 1 then record w { arm1 = arm } else
+    (if x == 2 then record w { arm2 = arm } else record w { arm3 = arm }))

@@ -77,7 +77,8 @@ pub record IsReading (kind : WordKind) (payload : ℕ) (word : Word) : Type 0 wh
 
 -- a step said of payloads: the payload reads as the word that the node sees, and the new one is the packing of what
 -- the step leaves there
-pub record PackedStep {M : Type 0} (Step : Word → Word → M → Type 0) (kind : WordKind) (payload new : ℕ) (after : M) : Type 0 where
+pub record PackedStep {M : Type 0} (Step : Word → Word → M → Type 0) (kind : WordKind) (payload new : ℕ) (after : M)
+    : Type 0 where
   pub seen : Word
   pub left : Word
   pub reads : read_word kind payload ≡ Some seen

@@ -25,7 +25,8 @@ use rl_base::numberings;
 /// Fields of numbers: a field is read where it stands between low and high ones; a field that was written is
 /// read, and every other field is as it was.
 pub fn bit_fields()
-    ensures between { (low v high i n : ℕ) → low < 2 ^ i → v < 2 ^ n → field (low + v * 2 ^ i + high * 2 ^ (i + n)) i n ≡ v }
+    ensures between { (low v high i n : ℕ) → low < 2 ^ i → v < 2 ^ n
+        → field (low + v * 2 ^ i + high * 2 ^ (i + n)) i n ≡ v }
     ensures written { (x i n v : ℕ) → v < 2 ^ n → field (with_field x i n v) i n ≡ v }
     ensures lower { (x i n v j m : ℕ) → j + m ≤ i → field (with_field x i n v) j m ≡ field x j m }
     ensures higher { (x i n v j m : ℕ) → v < 2 ^ n → i + n ≤ j → field (with_field x i n v) j m ≡ field x j m }
@@ -44,11 +45,15 @@ pub fn packings()
 /// One arm of a reservation word: its code is a field of the packing, and to change the arm is to write that
 /// field and leaves every other arm as it was.
 pub fn arms()
-    ensures field { (w : ResvWord) (x : ℕ) → FitsResv w → x < 4 → field (packed_resv w) (6 * x) 6 ≡ arm_code (arm_in w x) }
-    ensures written { (w : ResvWord) (x : ℕ) (arm : Option TrainId) → FitsResv w → x < 4 → packed_resv (with_arm w x arm) ≡ with_field (packed_resv w) (6 * x) 6 (arm_code arm) }
-    ensures fits { (w : ResvWord) (x : ℕ) (arm : Option TrainId) → FitsResv w → FitsArm arm → x < 4 → FitsResv (with_arm w x arm) }
+    ensures field { (w : ResvWord) (x : ℕ) → FitsResv w → x < 4
+        → field (packed_resv w) (6 * x) 6 ≡ arm_code (arm_in w x) }
+    ensures written { (w : ResvWord) (x : ℕ) (arm : Option TrainId) → FitsResv w → x < 4
+        → packed_resv (with_arm w x arm) ≡ with_field (packed_resv w) (6 * x) 6 (arm_code arm) }
+    ensures fits { (w : ResvWord) (x : ℕ) (arm : Option TrainId) → FitsResv w → FitsArm arm → x < 4
+        → FitsResv (with_arm w x arm) }
     ensures same { (w : ResvWord) (x : ℕ) (arm : Option TrainId) → x < 4 → arm_in (with_arm w x arm) x ≡ arm }
-    ensures others { (w : ResvWord) (x y : ℕ) (arm : Option TrainId) → x < 4 → y < 4 → y ≢ x → arm_in (with_arm w x arm) y ≡ arm_in w y }
+    ensures others { (w : ResvWord) (x y : ℕ) (arm : Option TrainId) → x < 4 → y < 4 → y ≢ x
+        → arm_in (with_arm w x arm) y ≡ arm_in w y }
 {}
 
 /// A word is its stamp and its payload.
@@ -92,5 +97,7 @@ pub fn words()
     ensures reads { (word : Word) → FitsWord word → read_word (kind_of word) (packed_word word) ≡ Some word }
     ensures only { (kind : WordKind) (n : ℕ) (word : Word) → read_word kind n ≡ Some word → IsReading kind n word }
     ensures small { (word : Word) → FitsWord word → packed_word word < 2 ^ 32 }
-    ensures owned { (lay : Layout) (word : Word) → HasWord lay (kind_of word) → HasNode lay (word_owner word) → FitsWord word → Owns lay (word_number lay (kind_of word)) (packed_word word) (node_number lay (word_owner word)) }
+    ensures owned { (lay : Layout) (word : Word) → HasWord lay (kind_of word) → HasNode lay (word_owner word)
+        → FitsWord word → Owns lay (word_number lay (kind_of word)) (packed_word word)
+        (node_number lay (word_owner word)) }
 {}

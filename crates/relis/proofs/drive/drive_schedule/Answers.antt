@@ -63,6 +63,7 @@ returns g c =
     let followed : WasFollowed held after x y first net = record { read = c.in_ok-net.ensures.accepted; fetches = c.read_network.ensures.fetches } in
     let work : UnlessMemory (DrivesScheduleTo net bytes c.args.tries) c.schedule_on.result = rw c.as_slice.ensures.value at c.schedule_on.ensures in
     record {
-      ends = both order first second held after x y z net bytes (DrivesScheduleTo net bytes c.args.tries) c.schedule_on.result refl followed c.in_ok-schedule.ensures.read (λ e w. w) work;
+      ends = both order first second held after x y z net bytes
+          (DrivesScheduleTo net bytes c.args.tries) c.schedule_on.result refl followed c.in_ok-schedule.ensures.read (λ e w. w) work;
       fetches = fetches_both first second held after last x y z c.read_network.ensures.fetches c.read_file.ensures.fetches;
     }

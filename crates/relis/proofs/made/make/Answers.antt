@@ -16,9 +16,11 @@ returns c =
       report = c.in_ok-report.report;
       driven =
           subst (λ (net : NetworkPlan). IsDrivenReport net DEFAULT_TRIES (nodes_in_rounds net MADE_ROUNDS) c.in_ok-report.report) c.in_ok-net.ensures
-          (subst (λ (nodes : List ℕ). IsDrivenReport c.in_ok-net.net DEFAULT_TRIES nodes c.in_ok-report.report) c.in-Some.ensures.rounds c.in_ok-report.ensures);
+          (subst (λ (nodes : List ℕ). IsDrivenReport c.in_ok-net.net DEFAULT_TRIES nodes c.in_ok-report.report) c.in-Some.ensures.rounds
+          c.in_ok-report.ensures);
       text_is =
           c.in_ok-put_counts.ensures
-          ∙ ap (λ (t : List ℕ). t ++ counts_line c.in_ok-report.report) (c.in_ok-put_size.ensures ∙ ap (λ (t : List ℕ). t ++ size_line c.args.n c.in_ok-net.net) c.new-out.ensures)
+          ∙ ap (λ (t : List ℕ). t ++ counts_line c.in_ok-report.report)
+          (c.in_ok-put_size.ensures ∙ ap (λ (t : List ℕ). t ++ size_line c.args.n c.in_ok-net.net) c.new-out.ensures)
           ∙ ap (λ (net : NetworkPlan). size_line c.args.n net ++ counts_line c.in_ok-report.report) c.in_ok-net.ensures;
     }

@@ -19,10 +19,13 @@ cause net text (refusal.Line n) short fault = (short, fault)
 cause net text refusal.Long short fault = absurd fault
 cause net text refusal.NoMemory short fault = tt
 
-answer : (net : NetworkPlan) (text : List ℕ) (result : Result Verdict ReportRefusal) (tries : ℕ) (moves : List Move) (reading : Reading) (j : Judge) → (IsLong net text → ⊥)
+answer : (net : NetworkPlan) (text : List ℕ) (result : Result Verdict ReportRefusal) (tries : ℕ) (moves : List Move) (reading : Reading) (j : Judge)
+    → (IsLong net text → ⊥)
     → HasRead net text (record { tries = tries; moves = moves; outcomes = [] }) reading → HasNoMove net reading.left → HasJudged net moves j
-    → IfOk result (λ v. (t : List ℕ) (ms : List Move) → HasRead net t (record { tries = tries; moves = ms; outcomes = [] }) reading → HasJudged net ms j → IsVerdictOn net t v)
-    → IfErr result (λ e. (t : List ℕ) (ms : List Move) → HasRead net t (record { tries = tries; moves = ms; outcomes = [] }) reading → HasNoMove net reading.left → IsFault net t e)
+    → IfOk result (λ v. (t : List ℕ) (ms : List Move) → HasRead net t (record { tries = tries; moves = ms; outcomes = [] }) reading → HasJudged net ms j
+    → IsVerdictOn net t v)
+    → IfErr result (λ e. (t : List ℕ) (ms : List Move) → HasRead net t (record { tries = tries; moves = ms; outcomes = [] }) reading
+    → HasNoMove net reading.left → IsFault net t e)
     → AuditsAs net text result
 answer net text (Ok v) tries moves reading j short has none judged ok err = (short, ok text moves has judged)
 answer net text (Err e) tries moves reading j short has none judged ok err = cause net text e short (err text moves has none)
@@ -30,7 +33,8 @@ answer net text (Err e) tries moves reading j short has none judged ok err = cau
 pub returns-in-Ok : goal.returns-in-Ok
 returns-in-Ok c =
     let laws = c.reading_laws.ensures in
-    let start = laws.start c.args.net.now c.args.text.now c.new-lines.result c.head-head.new.self c.new-lines.ensures.given c.new-lines.ensures.left c.head-head.ensures.left c.head-head.ensures.count in
+    let start = laws.start c.args.net.now c.args.text.now c.new-lines.result c.head-head.new.self c.new-lines.ensures.given c.new-lines.ensures.left
+    c.head-head.ensures.left c.head-head.ensures.count in
     let run = c.in_ok-judge_moves.ensures.ok in
     let moves = run.read c.args.text.now start in
     let short = laws.short c.args.net.now c.args.text.now run.moves c.judge_moves.new.lines moves run.few (omega arith) c.in_ok-judge_moves.ensures.none in
@@ -41,7 +45,8 @@ returns-in-Ok c =
 pub returns : goal.returns
 returns c =
     let laws = c.reading_laws.ensures in
-    let start = laws.start c.args.net.now c.args.text.now c.new-lines.result c.head-head.new.self c.new-lines.ensures.given c.new-lines.ensures.left c.head-head.ensures.left c.head-head.ensures.count in
+    let start = laws.start c.args.net.now c.args.text.now c.new-lines.result c.head-head.new.self c.new-lines.ensures.given c.new-lines.ensures.left
+    c.head-head.ensures.left c.head-head.ensures.count in
     let run = c.in_ok-judge_moves.ensures.ok in
     let moves = run.read c.args.text.now start in
     let short = laws.short c.args.net.now c.args.text.now run.moves c.judge_moves.new.lines moves run.few (omega arith) c.in_ok-judge_moves.ensures.none in

@@ -11,7 +11,8 @@ returns-then-judge-clause-err c = λ text h.
     let count = run.judged.count in
     let full = c.if-judge.true in
     let longer = one_longer run.moves c.in-Some.m in
-    c.reading_laws.ensures.long c.args.net.now text (run.moves ++ c.in-Some.m ∷ []) c.next_move.new.self (c.in-Some.ensures.some text run.moves (run.read text h))
+    c.reading_laws.ensures.long c.args.net.now text (run.moves ++ c.in-Some.m ∷ []) c.next_move.new.self
+    (c.in-Some.ensures.some text run.moves (run.read text h))
     (omega (arith, count, full, longer))
 
 pub loop-m-preserved : goal.loop-m-preserved

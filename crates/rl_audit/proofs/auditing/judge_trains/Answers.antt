@@ -28,7 +28,8 @@ loop-k-preserved c =
         outcomes = run.outcomes ++ c.in-Ok.o ∷ [];
         counted = omega (arith, counted, longer);
         read = λ text report read none. c.in-Ok.ensures.ok text (record report { outcomes = run.outcomes }) (run.read text report read none) run.counted;
-        judged = λ report tried none before. c.take_outcome.ensures.judged (record report { outcomes = run.outcomes }) tried run.counted (run.judged report tried none before);
+        judged = λ report tried none before. c.take_outcome.ensures.judged (record report { outcomes = run.outcomes }) tried run.counted
+            (run.judged report tried none before);
         none = λ e. absurd (not_empty run.outcomes c.in-Ok.o e);
       };
       fits = subst (Fits c.args.net.now) (sym c.take_outcome.ensures.world) c.loop-k.invariant.fits;

@@ -19,7 +19,9 @@ returns-then-ne c =
     let lay : c.layout.result ≡ layout_of c.args.line.now = c.layout.ensures.layout in
     let number : c.target.result.0 ≡ word_number (layout_of c.args.line.now) (machine_target c.args.b) = rw lay at c.target.ensures.number in
     let there = (c.numbered.ensures.node_back (layout_of c.args.line.now) c.args.node.0 (nodes.Machine c.args.b) c.requires.at).0 in
-    let law = λ (kind : WordKind) (payload : ℕ) (new : ℕ) (after : MachineMind) (is : machine_step c.args.b c.args.mind.now kind payload ≡ Some (new, after)). c.machine_steps.ensures (layout_of c.args.line.now) c.args.b c.args.mind.now kind payload new after there is in
+    let law = λ (kind : WordKind) (payload : ℕ) (new : ℕ) (after : MachineMind)
+    (is : machine_step c.args.b c.args.mind.now kind payload ≡ Some (new, after)). c.machine_steps.ensures
+    (layout_of c.args.line.now) c.args.b c.args.mind.now kind payload new after there is in
     let other : c.target.result.0 ≡ c.args.w.0 → ⊥ = grind (arith, nat_tests, c.if-ne.ensures) in
     sym (machine_elsewhere c.args.line.now c.args.node.0 c.args.w.0 c.args.payload c.args.b c.args.mind.now law c.requires.at (λ is. other (number ∙ is)))
 
@@ -28,7 +30,8 @@ returns-in_err-payload c =
     let lay : c.layout.result ≡ layout_of c.args.line.now = c.layout.ensures.layout in
     let number : c.target.result.0 ≡ word_number (layout_of c.args.line.now) (machine_target c.args.b) = rw lay at c.target.ensures.number in
     let same : c.target.result.0 ≡ c.args.w.0 = grind (arith, nat_tests, c.if-ne.ensures) in
-    let step = machine_acts c.args.line.now c.args.node.0 c.args.w.0 c.args.payload c.args.b c.args.mind.now c.act.result c.requires.at (sym same ∙ number) (c.act.ensures.step c.args.b) in
+    let step = machine_acts c.args.line.now c.args.node.0 c.args.w.0 c.args.payload c.args.b c.args.mind.now c.act.result c.requires.at (sym same ∙ number)
+    (c.act.ensures.step c.args.b) in
     c.from_residual.ensures ∙ sym (step ∙ ap (as_mind Machine) c.in_err-payload.was)
 
 pub returns : goal.returns
@@ -36,5 +39,6 @@ returns c =
     let lay : c.layout.result ≡ layout_of c.args.line.now = c.layout.ensures.layout in
     let number : c.target.result.0 ≡ word_number (layout_of c.args.line.now) (machine_target c.args.b) = rw lay at c.target.ensures.number in
     let same : c.target.result.0 ≡ c.args.w.0 = grind (arith, nat_tests, c.if-ne.ensures) in
-    let step = machine_acts c.args.line.now c.args.node.0 c.args.w.0 c.args.payload c.args.b c.args.mind.now c.act.result c.requires.at (sym same ∙ number) (c.act.ensures.step c.args.b) in
+    let step = machine_acts c.args.line.now c.args.node.0 c.args.w.0 c.args.payload c.args.b c.args.mind.now c.act.result c.requires.at (sym same ∙ number)
+    (c.act.ensures.step c.args.b) in
     sym (step ∙ ap (as_mind Machine) c.in_ok-payload.was)

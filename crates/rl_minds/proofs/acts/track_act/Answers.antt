@@ -25,7 +25,9 @@ returns-then-ne c =
     let number : c.target.result.0 ≡ word_number (layout_of c.args.line.now) (track_target c.args.t c.args.mind.now) = rw lay at c.target.ensures.number in
     let mine = c.requires.mind in
     let there = (c.numbered.ensures.node_back (layout_of c.args.line.now) c.args.node.0 (nodes.Track c.args.t) c.requires.at).0 in
-    let law = λ (kind : WordKind) (payload : ℕ) (new : ℕ) (after : TrackMind) (is : track_step c.args.t c.args.mind.now kind payload ≡ Some (new, after)). c.track_steps.ensures (layout_of c.args.line.now) c.args.t c.args.mind.now kind payload new after there mine is in
+    let law = λ (kind : WordKind) (payload : ℕ) (new : ℕ) (after : TrackMind)
+    (is : track_step c.args.t c.args.mind.now kind payload ≡ Some (new, after)). c.track_steps.ensures
+    (layout_of c.args.line.now) c.args.t c.args.mind.now kind payload new after there mine is in
     let other : c.target.result.0 ≡ c.args.w.0 → ⊥ = grind (arith, nat_tests, c.if-ne.ensures) in
     sym (track_elsewhere c.args.line.now c.args.node.0 c.args.w.0 c.args.payload c.args.t c.args.mind.now law c.requires.at (λ is. other (number ∙ is)))
 
@@ -34,7 +36,8 @@ returns-in_err-payload c =
     let lay : c.layout.result ≡ layout_of c.args.line.now = c.layout.ensures.layout in
     let number : c.target.result.0 ≡ word_number (layout_of c.args.line.now) (track_target c.args.t c.args.mind.now) = rw lay at c.target.ensures.number in
     let same : c.target.result.0 ≡ c.args.w.0 = grind (arith, nat_tests, c.if-ne.ensures) in
-    let step = track_acts c.args.line.now c.args.node.0 c.args.w.0 c.args.payload c.args.t c.args.mind.now c.act.result c.requires.at (sym same ∙ number) (c.act.ensures.step c.args.t) in
+    let step = track_acts c.args.line.now c.args.node.0 c.args.w.0 c.args.payload c.args.t c.args.mind.now c.act.result c.requires.at (sym same ∙ number)
+    (c.act.ensures.step c.args.t) in
     c.from_residual.ensures ∙ sym (step ∙ ap (as_mind Track) c.in_err-payload.was)
 
 pub returns : goal.returns
@@ -42,5 +45,6 @@ returns c =
     let lay : c.layout.result ≡ layout_of c.args.line.now = c.layout.ensures.layout in
     let number : c.target.result.0 ≡ word_number (layout_of c.args.line.now) (track_target c.args.t c.args.mind.now) = rw lay at c.target.ensures.number in
     let same : c.target.result.0 ≡ c.args.w.0 = grind (arith, nat_tests, c.if-ne.ensures) in
-    let step = track_acts c.args.line.now c.args.node.0 c.args.w.0 c.args.payload c.args.t c.args.mind.now c.act.result c.requires.at (sym same ∙ number) (c.act.ensures.step c.args.t) in
+    let step = track_acts c.args.line.now c.args.node.0 c.args.w.0 c.args.payload c.args.t c.args.mind.now c.act.result c.requires.at (sym same ∙ number)
+    (c.act.ensures.step c.args.t) in
     sym (step ∙ ap (as_mind Track) c.in_ok-payload.was)

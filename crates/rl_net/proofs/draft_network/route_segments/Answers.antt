@@ -8,4 +8,6 @@ loop-k-preserved c =
     let d = c.args.index.now in
     let route = c.args.route.now in
     let number = c.segment_id.ensures ∙ ap (segment_number d) c.bytes.ensures in
-    every_other_step (segment_number d) route c.loop-k.ids c.push.new.self (map (segment_number d) (every_other route)) c.loop-k.k c.at.result.now c.segment_id.result (omega arith) (sym (c.at.ensures.value _)) c.loop-k.invariant number c.in_ok-push.ensures.ok
+    every_other_step (segment_number d) route c.loop-k.ids c.push.new.self
+    (map (segment_number d) (every_other route)) c.loop-k.k c.at.result.now c.segment_id.result (omega arith)
+    (sym (c.at.ensures.value _)) c.loop-k.invariant number c.in_ok-push.ensures.ok

@@ -9,4 +9,5 @@ loop-i-preserved c =
     let d = c.args.draft.now in
     let name = c.at.result.now in
     let kept = same_Some _ _ (sym c.at-in-loop-i.ensures ∙ c.requires.ends c.loop-i.i name c.at.ensures.there) in
-    map_step (segment_of d) d.segments c.loop-i.segments c.push.new.self c.loop-i.i name c.in_ok-segment_from.field-0 (omega arith) (sym (c.at.ensures.value name)) c.loop-i.invariant (c.in_ok-segment_from.ensures d kept) c.in_ok-push.ensures.ok
+    map_step (segment_of d) d.segments c.loop-i.segments c.push.new.self c.loop-i.i name c.in_ok-segment_from.field-0 (omega arith)
+    (sym (c.at.ensures.value name)) c.loop-i.invariant (c.in_ok-segment_from.ensures d kept) c.in_ok-push.ensures.ok

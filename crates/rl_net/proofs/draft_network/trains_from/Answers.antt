@@ -8,4 +8,5 @@ pub loop-i-preserved : goal.loop-i-preserved
 loop-i-preserved c =
     let d = c.args.index.now in
     let here = rw c.draft-draft.ensures at (sym (c.at.ensures.value c.at.result.now)) in
-    map_step (train_of d) d.trains c.loop-i.trains c.push.new.self c.loop-i.i c.at.result.now c.in_ok-train_from.field-0 (omega (arith, ap (λ (x : Draft). length x.trains) c.draft-draft.ensures)) here c.loop-i.invariant c.in_ok-train_from.ensures c.in_ok-push.ensures.ok
+    map_step (train_of d) d.trains c.loop-i.trains c.push.new.self c.loop-i.i c.at.result.now c.in_ok-train_from.field-0
+    (omega (arith, ap (λ (x : Draft). length x.trains) c.draft-draft.ensures)) here c.loop-i.invariant c.in_ok-train_from.ensures c.in_ok-push.ensures.ok

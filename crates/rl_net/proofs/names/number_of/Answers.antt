@@ -10,4 +10,5 @@ returns-then-eq-clause-number g c =
 pub loop-i-preserved : goal.loop-i-preserved
 loop-i-preserved g c =
     let differs : bytes_eq (g.T.Named.name_of c.index-items-i.result) c.args.name.now ≡ false = cc in
-    rw add-one (number_in_none g.T.Named.name_of c.args.items.now c.loop-i.i c.index-items-i.result c.args.name.now c.loop-i.invariant (omega arith) c.index-items-i.is differs)
+    rw add-one (number_in_none g.T.Named.name_of c.args.items.now c.loop-i.i c.index-items-i.result c.args.name.now c.loop-i.invariant
+    (omega arith) c.index-items-i.is differs)

@@ -7,4 +7,5 @@ use Rattle.rl_net.proofs.rule_14_fits.first_route_fit.Goals as goal
 pub returns-in-Some : goal.returns-in-Some
 returns-in-Some c =
     let d = c.args.index.now in
-    sym (first_below_found (among_places_of d 14) c.loop-i.i (length d.trains) c.in-Some.place c.loop-i.invariant (sym c.in-Some.ensures) (omega (arith, ap (λ (x : Draft). length x.trains) c.draft.ensures)))
+    sym (first_below_found (among_places_of d 14) c.loop-i.i (length d.trains) c.in-Some.place c.loop-i.invariant (sym c.in-Some.ensures)
+    (omega (arith, ap (λ (x : Draft). length x.trains) c.draft.ensures)))

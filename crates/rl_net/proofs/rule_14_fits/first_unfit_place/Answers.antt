@@ -9,4 +9,5 @@ use Rattle.rl_net.proofs.rule_14_fits.first_unfit_place.Goals as goal
 pub returns-then-is_unfit : goal.returns-then-is_unfit
 returns-then-is_unfit c =
     let d = c.args.index.now in
-    sym (tried_found (λ j. breaks d 14 (RouteItem c.args.i j)) (λ j. RouteItem c.args.i j) c.loop-j.j (route_length d c.args.i) c.loop-j.invariant (cc) (omega (arith, route_length_train d c.args.i _ (rw c.draft.ensures at c.at.ensures.there))))
+    sym (tried_found (λ j. breaks d 14 (RouteItem c.args.i j)) (λ j. RouteItem c.args.i j) c.loop-j.j (route_length d c.args.i) c.loop-j.invariant (cc)
+    (omega (arith, route_length_train d c.args.i _ (rw c.draft.ensures at c.at.ensures.there))))

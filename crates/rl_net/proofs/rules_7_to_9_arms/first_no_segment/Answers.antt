@@ -7,4 +7,5 @@ use Rattle.rl_net.proofs.rules_7_to_9_arms.first_no_segment.Goals as goal
 pub returns-in-Some : goal.returns-in-Some
 returns-in-Some c =
     let d = c.args.index.now in
-    sym (first_below_found (among_arms_of d 8) c.loop-i.i (length d.boxes) c.in-Some.place c.loop-i.invariant (sym c.in-Some.ensures) (omega (arith, ap (λ (x : Draft). length x.boxes) c.draft.ensures)))
+    sym (first_below_found (among_arms_of d 8) c.loop-i.i (length d.boxes) c.in-Some.place c.loop-i.invariant (sym c.in-Some.ensures)
+    (omega (arith, ap (λ (x : Draft). length x.boxes) c.draft.ensures)))

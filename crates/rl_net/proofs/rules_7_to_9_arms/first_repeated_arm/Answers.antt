@@ -9,4 +9,5 @@ use Rattle.rl_net.proofs.rules_7_to_9_arms.first_repeated_arm.Goals as goal
 pub returns-then-is_repeated : goal.returns-then-is_repeated
 returns-then-is_repeated c =
     let d = c.args.draft.now in
-    sym (tried_found (λ j. breaks d 9 (BoxArm c.args.i j)) (λ j. BoxArm c.args.i j) c.loop-j.j (arms_at d c.args.i) c.loop-j.invariant (cc) (omega (arith, arms_at_box d c.args.i _ c.at.ensures.there)))
+    sym (tried_found (λ j. breaks d 9 (BoxArm c.args.i j)) (λ j. BoxArm c.args.i j) c.loop-j.j (arms_at d c.args.i) c.loop-j.invariant (cc)
+    (omega (arith, arms_at_box d c.args.i _ c.at.ensures.there)))

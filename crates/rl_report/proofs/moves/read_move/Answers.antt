@@ -9,7 +9,8 @@ use Rattle.rl_report.specs.Grammar.{IsMoveLine}
 use Rattle.rl_report.proofs.ReadLines.{move_line_from_words, words_from_move_line}
 use Rattle.rl_report.proofs.moves.read_move.Goals as goal
 
-some : (net : NetworkPlan) (text : List ℕ) (o : Option Move) → IfSome o (λ m. IsMoveOf net m × (words_of text ≡ move_words net m)) → IfSome o (IsMoveLine net text)
+some : (net : NetworkPlan) (text : List ℕ) (o : Option Move) → IfSome o (λ m. IsMoveOf net m × (words_of text ≡ move_words net m))
+    → IfSome o (IsMoveLine net text)
 some net text None h = tt
 some net text (Some m) h = move_line_from_words net text m h.0 h.1
 

@@ -11,7 +11,8 @@ returns-then-len-eq-MAX_MOVES-clause-err c = λ text h.
     let count = one_longer c.loop-m.moves c.in-Some.m in
     let length_is = c.len.ensures in
     let full = c.if-len-eq-MAX_MOVES.true in
-    long_from_moves c.args.net.now text (c.loop-m.moves ++ c.in-Some.m ∷ []) c.next_move.new.self (c.in-Some.ensures.some text c.loop-m.moves (c.loop-m.invariant.read text h))
+    long_from_moves c.args.net.now text (c.loop-m.moves ++ c.in-Some.m ∷ []) c.next_move.new.self
+    (c.in-Some.ensures.some text c.loop-m.moves (c.loop-m.invariant.read text h))
     (omega (arith, count, length_is, full))
 
 pub loop-m-preserved : goal.loop-m-preserved

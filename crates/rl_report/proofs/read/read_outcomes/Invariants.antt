@@ -7,7 +7,8 @@ use Rattle.rl_report.proofs.read.read_outcomes.Given as goal
 abbrev pub invariant-loop-k : goal.invariant-loop-k
 invariant-loop-k l =
     record {
-      read : (text : List ℕ) (report : Report) → HasRead l.net text report l.initial.lines → report.outcomes ≡ [] → HasRead l.net text (record report { outcomes = l.outcomes }) l.lines;
+      read : (text : List ℕ) (report : Report) → HasRead l.net text report l.initial.lines → report.outcomes ≡ []
+          → HasRead l.net text (record report { outcomes = l.outcomes }) l.lines;
       count : length l.outcomes ≡ l.k;
       none : l.outcomes ≡ [] → l.lines ≡ l.initial.lines;
     }

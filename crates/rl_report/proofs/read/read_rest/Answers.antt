@@ -11,9 +11,11 @@ returns-in_err-outcomes-clause-err c =
 
 pub returns-in-Ok-clause-ok : goal.returns-in-Ok-clause-ok
 returns-in-Ok-clause-ok c = λ text read.
-    c.in-Ok.ensures.ok text (record { tries = c.args.tries; moves = c.args.moves; outcomes = c.in_ok-outcomes.outcomes }) (c.in_ok-outcomes.ensures.ok text _ read refl) c.in_ok-outcomes.ensures.all
+    c.in-Ok.ensures.ok text (record { tries = c.args.tries; moves = c.args.moves; outcomes = c.in_ok-outcomes.outcomes })
+    (c.in_ok-outcomes.ensures.ok text _ read refl) c.in_ok-outcomes.ensures.all
 
 pub returns-in-Err-clause-err : goal.returns-in-Err-clause-err
 returns-in-Err-clause-err c = λ text read no_move.
-    c.in-Err.ensures.err text (record { tries = c.args.tries; moves = c.args.moves; outcomes = c.in_ok-outcomes.outcomes }) (c.in_ok-outcomes.ensures.ok text _ read refl) c.in_ok-outcomes.ensures.all
+    c.in-Err.ensures.err text (record { tries = c.args.tries; moves = c.args.moves; outcomes = c.in_ok-outcomes.outcomes })
+    (c.in_ok-outcomes.ensures.ok text _ read refl) c.in_ok-outcomes.ensures.all
     (λ e. subst (λ (r : Reading). HasNoMove c.args.net.now r.left) (sym (c.in_ok-outcomes.ensures.none e)) no_move)

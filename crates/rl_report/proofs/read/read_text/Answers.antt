@@ -26,16 +26,20 @@ answer net text (Err e) read reading short has none ok err = cause net text e sh
 
 pub returns-in-Ok : goal.returns-in-Ok
 returns-in-Ok c =
-    let start = no_moves_yet c.args.net.now c.args.text.now c.new-lines.result c.head-head.new.self c.new-lines.ensures.given c.new-lines.ensures.left c.head-head.ensures.left c.head-head.ensures.count in
+    let start = no_moves_yet c.args.net.now c.args.text.now c.new-lines.result c.head-head.new.self c.new-lines.ensures.given c.new-lines.ensures.left
+    c.head-head.ensures.left c.head-head.ensures.count in
     let moves = c.in_ok-moves.ensures.ok c.args.text.now start in
-    let short = short_from_moves c.args.net.now c.args.text.now c.in_ok-moves.moves c.read_moves.new.lines moves c.in_ok-moves.ensures.few (omega arith) c.in_ok-moves.ensures.none in
+    let short = short_from_moves c.args.net.now c.args.text.now c.in_ok-moves.moves c.read_moves.new.lines moves c.in_ok-moves.ensures.few
+    (omega arith) c.in_ok-moves.ensures.none in
     answer c.args.net.now c.args.text.now c.read_rest.result _ c.read_moves.new.lines short
     (c.in-Ok.ensures.ok c.args.net.now c.args.text.now c.in_ok-moves.moves c.read_moves.new.lines c.new-lines.ensures.left moves)
     c.in_ok-moves.ensures.none c.read_rest.ensures.ok c.read_rest.ensures.err
 
 pub returns-in-Err : goal.returns-in-Err
 returns-in-Err c =
-    let start = no_moves_yet c.args.net.now c.args.text.now c.new-lines.result c.head-head.new.self c.new-lines.ensures.given c.new-lines.ensures.left c.head-head.ensures.left c.head-head.ensures.count in
+    let start = no_moves_yet c.args.net.now c.args.text.now c.new-lines.result c.head-head.new.self c.new-lines.ensures.given c.new-lines.ensures.left
+    c.head-head.ensures.left c.head-head.ensures.count in
     let moves = c.in_ok-moves.ensures.ok c.args.text.now start in
-    let short = short_from_moves c.args.net.now c.args.text.now c.in_ok-moves.moves c.read_moves.new.lines moves c.in_ok-moves.ensures.few (omega arith) c.in_ok-moves.ensures.none in
+    let short = short_from_moves c.args.net.now c.args.text.now c.in_ok-moves.moves c.read_moves.new.lines moves c.in_ok-moves.ensures.few
+    (omega arith) c.in_ok-moves.ensures.none in
     (short, c.in-Err.ensures.err c.args.net.now c.args.text.now c.trains-trains.ensures.network c.new-lines.ensures.left)

@@ -27,4 +27,5 @@ merge-requires c =
     let both : c.push-2.new.self ≡ a ∷ b ∷ [] =
     c.in_ok-push-2.ensures.ok ∙ ap (λ (l : List Record). l ++ b ∷ []) (c.in_ok-push.ensures.ok ∙ ap (λ (l : List Record). l ++ a ∷ []) c.new-records.ensures) in
     c.records_by_node.ensures c.push-2.new.self
-    (subst AreByNode (sym both) (by_node a b c.args.first c.args.second c.in_ok-record_of.ensures c.in_ok-record_of-2.ensures c.requires.first c.requires.second))
+    (subst AreByNode (sym both)
+    (by_node a b c.args.first c.args.second c.in_ok-record_of.ensures c.in_ok-record_of-2.ensures c.requires.first c.requires.second))

@@ -13,5 +13,6 @@ unwrap_or-below n len r h e = grind (arith, nat_tests)
 pub returns : goal.returns
 returns c =
     let xs = c.args.text.now in
-    let found = position_from_yields_List (λ b. b == c.args.byte) _ _ c.position.result c.position.ensures.ran (YieldsList-from_slice xs cc) (λ x b q k. search (rules, tests)) in
+    let found = position_from_yields_List (λ b. b == c.args.byte) _ _ c.position.result c.position.ensures.ran (YieldsList-from_slice xs cc)
+    (λ x b q k. search (rules, tests)) in
     c.unwrap_or.ensures ∙ unwrap_or-below (position_or_len (λ b. b == c.args.byte) xs) (length xs) c.position.result (prefix_len-le-length _ xs) found

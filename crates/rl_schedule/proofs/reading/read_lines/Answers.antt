@@ -18,7 +18,13 @@ loop-line-preserved c =
       answer =
           c.loop-line.invariant.answer ∙ ap (items_after c.args.net.now c.loop-line.items) c.in-Some.ensures.first
           ∙ item_read c.args.net.now c.loop-line.items (line_of c.in-Some.line) c.line.new.self.left c.in_ok-item.item said;
-      turns = omega (arith, sum_by_push (turn_count (nodes_of c.args.net.now)) c.loop-line.items c.in_ok-item.item, c.loop-line.invariant.turns, c.count_turns-turns.ensures);
+      turns = omega (
+        arith,
+        sum_by_push
+            (turn_count (nodes_of c.args.net.now)) c.loop-line.items c.in_ok-item.item,
+        c.loop-line.invariant.turns,
+        c.count_turns-turns.ensures,
+      );
       few = omega (arith, c.in_ok-item.ensures.few, c.count_turns-turns.ensures);
       given = omega (arith, c.in-Some.ensures.counted, number, length-append c.loop-line.items (c.in_ok-item.item ∷ []));
       there = All-push (HasNode (nodes_of c.args.net.now)) c.loop-line.items c.in_ok-item.item c.loop-line.invariant.there c.in_ok-item.ensures.within;

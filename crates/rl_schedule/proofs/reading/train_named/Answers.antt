@@ -6,6 +6,7 @@ use Rattle.rl_schedule.proofs.reading.train_named.Goals as goal
 
 pub returns-clause-number : goal.returns-clause-number
 returns-clause-number c =
-    looked_up (λ (r : Train). r.name) c.args.name.now c.args.net.now.trains (option_map (λ t. t.0) c.find_train.result) c.layout-layout.ensures.network.train_names
+    looked_up (λ (r : Train). r.name) c.args.name.now c.args.net.now.trains
+    (option_map (λ t. t.0) c.find_train.result) c.layout-layout.ensures.network.train_names
     (some_found (λ (t : TrainId). t.0) (λ (r : Train). r.name) c.args.name.now c.args.net.now.trains c.find_train.result c.find_train.ensures.some)
     (none_found (λ (t : TrainId). t.0) (λ (r : Train). r.name) c.args.name.now c.args.net.now.trains c.find_train.result c.find_train.ensures.none)

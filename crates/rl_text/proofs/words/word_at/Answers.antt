@@ -5,4 +5,6 @@ use Rattle.std.proofs.lemmas.Iterator.Splits.{YieldsList-from_slice_split}
 use Rattle.rl_text.proofs.words.word_at.Goals as goal
 
 pub returns : goal.returns
-returns c = nth_from_yields_List _ _ c.args.i c.nth.ensures.ran (YieldsList-from_slice_split _ (λ b. b == 32) c.args.line.now c.split.ensures.rest c.split.ensures.done c.split.ensures.closure (λ x b q k. search (rules, tests)))
+returns c = nth_from_yields_List _ _ c.args.i c.nth.ensures.ran
+    (YieldsList-from_slice_split _ (λ b. b == 32) c.args.line.now c.split.ensures.rest c.split.ensures.done c.split.ensures.closure
+    (λ x b q k. search (rules, tests)))

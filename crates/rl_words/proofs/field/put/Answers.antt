@@ -6,4 +6,5 @@ use Rattle.rl_words.proofs.field.put.Goals as goal
 pub returns : goal.returns
 returns c =
     let kept : (c.args.value * 2 ^ c.args.at) % 2 ^ 32 ≡ c.args.value * 2 ^ c.args.at = mod-eq_of_lt c.requires.fits in
-    rw kept (or_comm c.args.x (c.args.value * 2 ^ c.args.at) ∙ or_shifted c.args.value c.args.at c.args.x c.requires.below ∙ add_comm (c.args.value * 2 ^ c.args.at) c.args.x)
+    rw kept (or_comm c.args.x (c.args.value * 2 ^ c.args.at) ∙ or_shifted c.args.value c.args.at c.args.x c.requires.below
+    ∙ add_comm (c.args.value * 2 ^ c.args.at) c.args.x)

@@ -7,7 +7,8 @@ pub returns-then-is_some : goal.returns-then-is_some
 returns-then-is_some c = λ moves few judged.
     let failed = c.if-is_some.true in
     let test = c.is_some.ensures in
-    read_on c.args.net.now moves c.args.m c.args.self.now (c.args.self.now.moves + 1) refl (not_none c.args.self.now.failure c.is_some.result test failed) judged
+    read_on c.args.net.now moves c.args.m c.args.self.now (c.args.self.now.moves + 1) refl
+    (not_none c.args.self.now.failure c.is_some.result test failed) judged
 
 pub returns-in-Ok : goal.returns-in-Ok
 returns-in-Ok c = λ moves few judged.

@@ -14,7 +14,8 @@ returns-in-Some-clause-judged c = λ report tried place judged.
     let failed = c.if-is_some.false in
     let test = c.is_some.ensures in
     let fine : c.args.self.now.failure ≡ None = grind (arith, nat_tests) in
-    train_wrong c.args.net.now report c.args.tries c.args.t.0 c.args.o c.args.self.now _ _ c.in-Some.guard tried place c.requires.train fine c.in-Some.ensures refl refl judged
+    train_wrong c.args.net.now report c.args.tries c.args.t.0 c.args.o c.args.self.now _ _ c.in-Some.guard tried place c.requires.train fine c.in-Some.ensures
+    refl refl judged
 
 pub returns-in_default-clause-judged : goal.returns-in_default-clause-judged
 returns-in_default-clause-judged c = λ report tried place judged.

@@ -8,5 +8,6 @@ loop-b-preserved c =
     let pushed = c.in_ok-push.ensures.ok in
     rw pushed record {
       size = grind (arith, length-append, c.loop-b.invariant.size);
-      each = each_push (IsBoxState c.args.net.now c.args.self.now) c.loop-b.boxes c.box_state.result c.loop-b.invariant.each (rw c.loop-b.invariant.size c.box_state.ensures);
+      each = each_push (IsBoxState c.args.net.now c.args.self.now) c.loop-b.boxes c.box_state.result c.loop-b.invariant.each
+          (rw c.loop-b.invariant.size c.box_state.ensures);
     }

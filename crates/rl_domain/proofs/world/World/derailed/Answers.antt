@@ -10,5 +10,6 @@ returns-then-is_off_rails-clause-exact c =
 pub returns-clause-exact : goal.returns-clause-exact
 returns-clause-exact c = (
   λ is. absurd (false≢true is),
-  λ derailed. absurd (nobody_derailed c.args.net.now c.args.self.now c.loop-k.k (omega (arith, c.requires.trains, c.trains-k-end.ensures.count, c.loop-k-test.false)) c.loop-k.invariant derailed),
+  λ derailed. absurd (nobody_derailed c.args.net.now c.args.self.now c.loop-k.k
+      (omega (arith, c.requires.trains, c.trains-k-end.ensures.count, c.loop-k-test.false)) c.loop-k.invariant derailed),
 )

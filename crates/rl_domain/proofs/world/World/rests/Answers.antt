@@ -18,7 +18,8 @@ loop-k-preserved c = below_more _ _ c.loop-k.invariant (c.keeps_only.ensures.0 c
 pub returns : goal.returns
 returns c = (
   λ is.
-      rests_from c.args.net.now c.args.self.now c.args.t.0 c.loop-k.k c.standing-standing.result c.boxes-k-end.ensures.network c.requires.fits c.standing-standing.ensures
+      rests_from c.args.net.now c.args.self.now c.args.t.0 c.loop-k.k c.standing-standing.result c.boxes-k-end.ensures.network c.requires.fits
+      c.standing-standing.ensures
       (none_at _ (sym c.is_some.ensures ∙ c.if-is_some.false)) (omega (arith, c.boxes-k-end.ensures.count, c.loop-k-test.false)) c.loop-k.invariant,
   λ rests. refl,
 )

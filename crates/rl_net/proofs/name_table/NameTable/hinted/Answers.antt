@@ -9,6 +9,9 @@ returns-then-eq c =
     let keys = c.self.inside.names.keys in
     let i = c.in_ok-i.field-0.now in
     let k = c.in_ok-found.found.now in
-    let there : slice_get keys i ≡ Some k = rw (← c.as_slice.ensures.keys) (slice_get_read c.as_slice.result.now (length c.as_slice.result.now) i k refl c.in_ok-found.ensures.lookup.3.0 c.in_ok-found.ensures.lookup.1) in
-    let same : k.items ≡ c.args.name.now = sym c.as_slice-2.ensures.value ∙ (bytes_eq-Decides c.as_slice-2.result.now c.args.name.now).0 (sym c.eq.ensures ∙ c.if-eq.true) in
+    let there : slice_get keys i ≡ Some k =
+    rw (← c.as_slice.ensures.keys)
+    (slice_get_read c.as_slice.result.now (length c.as_slice.result.now) i k refl c.in_ok-found.ensures.lookup.3.0 c.in_ok-found.ensures.lookup.1) in
+    let same : k.items ≡ c.args.name.now =
+    sym c.as_slice-2.ensures.value ∙ (bytes_eq-Decides c.as_slice-2.result.now c.args.name.now).0 (sym c.eq.ensures ∙ c.if-eq.true) in
     rw (← c.self.view_is) (number_of_key keys i k c.args.name.now c.as_slice.ensures.unique there same)

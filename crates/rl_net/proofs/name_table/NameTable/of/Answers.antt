@@ -27,7 +27,8 @@ loop-i-preserved g c =
     let here = is_twice_at f items c.loop-i.i c.index-items-i.result (omega arith) c.index-items-i.is in
     let new : is_among c.loop-i.table c.name.result.now ≡ false = not_true _ (sym c.in_ok-add.ensures.new ∙ c.if-not-branch.false) in
     let fresh = here ∙ (rw (c.loop-i.invariant.0, c.name.ensures) at new) in (
-      map_step f items c.loop-i.table c.add.new.self c.loop-i.i c.index-items-i.result c.name.result.now (omega arith) c.index-items-i.is c.loop-i.invariant.0 c.name.ensures (c.in_ok-add.ensures.added new),
+      map_step f items c.loop-i.table c.add.new.self c.loop-i.i c.index-items-i.result c.name.result.now
+          (omega arith) c.index-items-i.is c.loop-i.invariant.0 c.name.ensures (c.in_ok-add.ensures.added new),
       below_more (is_twice (map f items)) c.loop-i.i c.loop-i.invariant.1 fresh,
     )
 

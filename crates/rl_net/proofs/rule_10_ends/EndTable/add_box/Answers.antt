@@ -13,12 +13,15 @@ loop-i-preserved c = λ ends keeps.
     let i = c.loop-i.i in
     let arm = c.bytes.result.now in
     let here = c.bytes.ensures ∙ sym (c.at.ensures.value arm) in
-    let more : (name : List ℕ) → ((ends name ++ ends_in_box b 0 (take i arms) name) ++ end_if (bytes_eq arm name) b i) ≡ (ends name ++ ends_in_box b 0 (take (i + 1) arms) name) =
-    λ name. rw add-one (append_assoc (ends name) _ _ ∙ ap (λ r. ends name ++ r) (sym (rw zero-add at (ends_in_box_more b 0 arms name i arm (omega arith) here)))) in
+    let more : (name : List ℕ)
+    → ((ends name ++ ends_in_box b 0 (take i arms) name) ++ end_if (bytes_eq arm name) b i) ≡ (ends name ++ ends_in_box b 0 (take (i + 1) arms) name) =
+    λ name. rw add-one (append_assoc (ends name) _ _
+    ∙ ap (λ r. ends name ++ r) (sym (rw zero-add at (ends_in_box_more b 0 arms name i arm (omega arith) here)))) in
     let was = c.loop-i.invariant ends keeps in
     elim c.match-segment_number.branch [
       | in-Some w ↦
-          (let one = keeps_one segments c.loop-i.self.ends w.add.new.self.ends _ b i w.in-Some.s arm w.in-Some.ensures.unlike (sym w.in-Some.ensures.number) w.add.ensures.changed w.add.ensures.others was in
+          (let one = keeps_one segments c.loop-i.self.ends w.add.new.self.ends _ b i w.in-Some.s arm w.in-Some.ensures.unlike
+          (sym w.in-Some.ensures.number) w.add.ensures.changed w.add.ensures.others was in
           rw w.self-is (keeps_same segments w.add.new.self.ends _ _ more one))
       | in_default w ↦
           (let none = keeps_none segments c.loop-i.self.ends _ b i arm (sym w.in_default.ensures.number) was in

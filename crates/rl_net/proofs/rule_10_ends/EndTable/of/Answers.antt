@@ -19,5 +19,6 @@ loop-b-preserved c =
     let x = c.at.result.now in
     let here = rw c.draft-draft.ensures at (sym (c.at.ensures.value x)) in
     let more : (name : List ℕ) → (ends_from 0 (take b d.boxes) name ++ ends_in_box b 0 x.arms name) ≡ ends_from 0 (take (b + 1) d.boxes) name =
-    λ name. rw add-one (sym (rw zero-add at (ends_from_more 0 d.boxes name b x (omega (arith, ap (λ (y : Draft). length y.boxes) c.draft-draft.ensures)) here))) in
+    λ name. rw add-one (sym (rw zero-add at
+    (ends_from_more 0 d.boxes name b x (omega (arith, ap (λ (y : Draft). length y.boxes) c.draft-draft.ensures)) here))) in
     keeps_same d.segments c.add_box.new.self.ends _ _ more (c.add_box.ensures (ends_from 0 (take b d.boxes)) c.loop-b.invariant)

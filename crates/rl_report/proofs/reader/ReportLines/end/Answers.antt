@@ -9,7 +9,8 @@ use Rattle.rl_report.proofs.reader.ReportLines.end.Goals as goal
 pub returns-then-not-is_last_line-clause-err : goal.returns-then-not-is_last_line-clause-err
 returns-then-not-is_last_line-clause-err c = λ text report read all none.
     no_end_fault c.args.net.now text report c.args.self.now _ c.trains-trains.ensures.network read c.next_number.ensures all none
-    (λ next. let is : IsTrue c.is_last_line.result = c.is_last_line.ensures.1 (c.peek.ensures ∙ next) in let not_last = c.if-not-is_last_line.true in grind (arith, nat_tests))
+    (λ next. let is : IsTrue c.is_last_line.result = c.is_last_line.ensures.1 (c.peek.ensures ∙ next) in let not_last = c.if-not-is_last_line.true in
+    grind (arith, nat_tests))
 
 pub returns-then-is_at_end-clause-ok : goal.returns-then-is_at_end-clause-ok
 returns-then-is_at_end-clause-ok c = λ text report read all.

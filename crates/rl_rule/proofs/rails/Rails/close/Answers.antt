@@ -8,7 +8,8 @@ returns-clause-run c =
     let rails = c.args.self in
     let closed = c.close_with-closed.result in
     let words : c.from_vec.result ≡ slots_items closed.words = c.from_vec.ensures ∙ c.words_of-words.ensures in
-    let last = last_log rails.table.shared.key.line.value rails.table.shared.key.tries rails.root.id rails.root.me.0 (slots_items closed.words) (slots_items closed.slots) rails.role c.requires c.close_with-closed.ensures.values.2 in
+    let last = last_log rails.table.shared.key.line.value rails.table.shared.key.tries rails.root.id rails.root.me.0 (slots_items closed.words)
+    (slots_items closed.slots) rails.role c.requires c.close_with-closed.ensures.values.2 in
     rw (words, ← rails.line, ← rails.tries) (last.0, last.1.replay)
 
 pub returns-clause-merge : goal.returns-clause-merge
@@ -16,7 +17,9 @@ returns-clause-merge c =
     let rails = c.args.self in
     let closed = c.close_with-closed.result in
     let words : c.from_vec.result ≡ slots_items closed.words = c.from_vec.ensures ∙ c.words_of-words.ensures in
-    let last = last_log rails.table.shared.key.line.value rails.table.shared.key.tries rails.root.id rails.root.me.0 (slots_items closed.words) (slots_items closed.slots) rails.role c.requires c.close_with-closed.ensures.values.2 in
+    let last = last_log rails.table.shared.key.line.value rails.table.shared.key.tries rails.root.id rails.root.me.0 (slots_items closed.words)
+    (slots_items closed.slots) rails.role c.requires c.close_with-closed.ensures.values.2 in
     λ merged merge.
     rw (words, ← rails.line, ← rails.tries)
-    (merged_replay c.merged_runs.ensures.run rails.table.shared.key.line.value rails.table.shared.key.tries rails.root.me.0.taken (slots_items closed.words) last.0 merged last.1 merge)
+    (merged_replay c.merged_runs.ensures.run rails.table.shared.key.line.value rails.table.shared.key.tries rails.root.me.0.taken
+    (slots_items closed.words) last.0 merged last.1 merge)

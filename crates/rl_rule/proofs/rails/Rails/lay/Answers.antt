@@ -17,7 +17,8 @@ pub invariant_of-result : goal.invariant_of-result
 invariant_of-result c =
     let made = c.in_ok-table.ensures in
     let line : c.in_ok-table.root.me.0.line ≡ c.of.result.value = ap (λ (m : Sat). m.0.line) made.4 in
-    let size : length c.as_slice.result.now ≡ word_count (layout_of c.args.line.now) = ap length (c.as_slice.ensures.value ∙ c.in_ok-words.ensures.words) ∙ start_words-length c.args.line.now (word_count (layout_of c.args.line.now)) in
+    let size : length c.as_slice.result.now ≡ word_count (layout_of c.args.line.now) =
+    ap length (c.as_slice.ensures.value ∙ c.in_ok-words.ensures.words) ∙ start_words-length c.args.line.now (word_count (layout_of c.args.line.now)) in
     record {
       own = made.2;
       line = ap (λ (k : Key). k.line.value) made.5 ∙ sym line;
