@@ -1,5 +1,5 @@
 -- The run of one train on the line of two segments fits step by step.
-use Rattle.std.proofs.Common.{◌≡◌, true, refl}
+use Rattle.std.proofs.Common.{◌≡◌, true, drop, refl}
 use Rattle.rl_drafts.specs.Drafts.{network_of}
 use Rattle.rl_drafts.specs.Examples.{one_train}
 use Rattle.rl_drafts.proofs.Networks.{IsNetwork-accepted}
@@ -17,9 +17,35 @@ pub begun : IsRun one_train_line 100 four_steps
 unfolding letter_at begins
 begun = ((((tt, (refl, refl, refl, refl)), (refl, refl, refl, refl)), (refl, refl, refl)), (refl, refl))
 
+-- the near end is reserved, the far end, and the box is locked
+near_end : IsRun one_train_line 100 (drop 31 whole_step)
+unfolding letter_at job_after_yes passes begins finishes
+near_end = (((((tt, (refl, refl, refl, refl)), (refl, refl, refl, refl)), (refl, refl, refl)), (refl, refl)), (refl, refl, refl))
+
+far_end : IsRun one_train_line 100 (drop 26 whole_step)
+unfolding letter_at job_after_yes passes begins finishes
+far_end = (((((near_end, (refl, refl, refl, refl)), (refl, refl, refl, refl)), (refl, refl, refl)), (refl, refl)), (refl, refl, refl))
+
+locked : IsRun one_train_line 100 (drop 21 whole_step)
+unfolding letter_at job_after_yes passes begins finishes
+locked = (((((far_end, (refl, refl, refl, refl)), (refl, refl, refl, refl)), (refl, refl, refl, refl)), (refl, refl)), (refl, refl, refl))
+
+-- the train passes, and gives back the lock and the segment that it left
+passed : IsRun one_train_line 100 (drop 15 whole_step)
+unfolding letter_at job_after_yes passes begins finishes
+passed = ((((((locked, (refl, refl, refl)), (refl, refl)), (refl, refl)), (refl, refl)), (refl, refl)), (refl, refl, refl))
+
+unlocked : IsRun one_train_line 100 (drop 10 whole_step)
+unfolding letter_at job_after_yes passes begins finishes
+unlocked = (((((passed, (refl, refl, refl, refl)), (refl, refl, refl, refl)), (refl, refl, refl, refl)), (refl, refl)), (refl, refl, refl))
+
+near_free : IsRun one_train_line 100 (drop 5 whole_step)
+unfolding letter_at job_after_yes passes begins finishes
+near_free = (((((unlocked, (refl, refl, refl, refl)), (refl, refl, refl, refl)), (refl, refl, refl)), (refl, refl)), (refl, refl, refl))
+
 pub whole : IsRun one_train_line 100 whole_step
 unfolding letter_at job_after_yes passes begins finishes
-whole = ((((((((((((((((((((((((((((((((((((tt, (refl, refl, refl, refl)), (refl, refl, refl, refl)), (refl, refl, refl)), (refl, refl)), (refl, refl, refl)), (refl, refl, refl, refl)), (refl, refl, refl, refl)), (refl, refl, refl)), (refl, refl)), (refl, refl, refl)), (refl, refl, refl, refl)), (refl, refl, refl, refl)), (refl, refl, refl, refl)), (refl, refl)), (refl, refl, refl)), (refl, refl, refl)), (refl, refl)), (refl, refl)), (refl, refl)), (refl, refl)), (refl, refl, refl)), (refl, refl, refl, refl)), (refl, refl, refl, refl)), (refl, refl, refl, refl)), (refl, refl)), (refl, refl, refl)), (refl, refl, refl, refl)), (refl, refl, refl, refl)), (refl, refl, refl)), (refl, refl)), (refl, refl, refl)), (refl, refl, refl, refl)), (refl, refl, refl, refl)), (refl, refl, refl)), (refl, refl)), (refl, refl, refl))
+whole = (((((near_free, (refl, refl, refl, refl)), (refl, refl, refl, refl)), (refl, refl, refl)), (refl, refl)), (refl, refl, refl))
 
 pub arrived : at_rest one_train_line 0 ((state_after one_train_line 100 whole_step).trains 0) ≡ true
 unfolding job_after_yes begins finishes
