@@ -18,11 +18,11 @@ use Rattle.rl_box.proofs.StepLaws.{ReadsWords, step_front}
 
 -- where a step fits, the glance says so
 sees : (b : BoxTable) (mind : BoxMind) (word next : Word) (after : BoxMind) → BoxStep b mind word next after → FitsWord word
-    → may_step b mind.work mind.waiting (packed_word word) ≡ true
+    → may_step b.number mind.work mind.waiting (packed_word word) ≡ true
 sees b _ _ _ _ (take t l waiting to has) fits =
     let here : l.to.0 ≡ b.number.0 = ap (λ (c : BoxId). c.0) to in
     let low : packed_mail (mails.Ask l) % 1024 ≡ 1 + 8 * b.number.0 = omega arith in
-    or_left (asks_box b (packed_mail (mails.Ask l))) _ (eq-eqb _ _ low)
+    or_left (asks_box b.number (packed_mail (mails.Ask l))) _ (eq-eqb _ _ low)
 sees b _ _ _ _ (reserve t l waiting w is free) fits = refl
 sees b _ _ _ _ (refuse t u l waiting w is held other) fits = refl
 sees b _ _ _ _ (release t l waiting w is held) fits = refl
@@ -30,7 +30,7 @@ sees b _ _ _ _ (lock t l side is joins) fits = refl
 sees b _ _ _ _ (ask t l side is here there) fits = refl
 sees b _ _ _ _ (moved p) fits =
     let low : packed_lock (Moved p) % 8 ≡ 3 = omega arith in
-    or_right (asks_box b (packed_lock (Moved p))) _ (and_from (says_moved (packed_lock (Moved p))) true (eq-eqb _ _ low) refl)
+    or_right (asks_box b.number (packed_lock (Moved p))) _ (and_from (says_moved (packed_lock (Moved p))) true (eq-eqb _ _ low) refl)
 sees b _ _ _ _ (unlock t l side is joins) fits = refl
 sees b _ _ _ _ (say_yes t l waiting) fits = refl
 sees b _ _ _ _ (say_refused t u l waiting is) fits = refl
@@ -42,10 +42,10 @@ none_of : {A : Type 0} (o : Option A) → ((v : A) → o ≡ Some v → ⊥) →
 none_of None h = refl
 none_of (Some v) h = absurd (h v refl)
 
-pub no_step : ComparesLetters → ReadsWords → (b : BoxTable) (mind : BoxMind) (payload : ℕ) → may_step b mind.work mind.waiting payload ≡ false
+pub no_step : ComparesLetters → ReadsWords → (b : BoxTable) (mind : BoxMind) (payload : ℕ) → may_step b.number mind.work mind.waiting payload ≡ false
     → (kind : WordKind) → box_step b mind kind payload ≡ None
 no_step same reads b mind payload hidden kind = none_of (box_step b mind kind payload) (λ r e.
     let p = step_front same b mind kind payload r.0 r.1 e in
     let seen = reads kind payload p.seen p.reads in
     let yes = sees b mind p.seen p.left r.1 p.step seen.fits in
-    true≢false (sym yes ∙ ap (may_step b mind.work mind.waiting) seen.packed ∙ hidden))
+    true≢false (sym yes ∙ ap (may_step b.number mind.work mind.waiting) seen.packed ∙ hidden))

@@ -27,7 +27,7 @@ pub fn box_lines()
 /// Where a glance at a payload says no, the box has no step at any word with that payload.
 pub fn box_glances()
     ensures { (b : BoxTable) (mind : BoxMind) (kind : WordKind) (payload : ℕ)
-        → may_step b mind.work mind.waiting payload ≡ false → box_step b mind kind payload ≡ None }
+        → may_step b.number mind.work mind.waiting payload ≡ false → box_step b mind kind payload ≡ None }
 {
     // What is known of letters and of any word, for the proof.
     letters();

@@ -1,9 +1,10 @@
-ghost use Rattle.std.specs.Prelude.{◌≡◌, ◌<◌, ◌≤◌, None, IfSome};
+ghost use Rattle.std.specs.Prelude.{◌≡◌, ◌<◌, ◌≤◌, false, None, IfSome};
 ghost use Rattle.rl_base.specs.declared.layout.WordKind.{WordKind};
 ghost use Rattle.rl_base.specs.declared.layout.WordKind.TheVariants as kinds;
 ghost use Rattle.rl_base.specs.Layout.{word_count, word_number, HasWord};
 ghost use Rattle.rl_words.specs.Lock.{FitsPath};
 ghost use Rattle.rl_words.specs.Mail.{FitsLetter};
+ghost use Rattle.rl_tables.specs.declared.table.BoxTable.{BoxTable};
 ghost use Rattle.rl_box.specs.Glance.{asks_box, says_moved, may_step};
 ghost use Rattle.rl_box.specs.Mind.{box_at, IsAnswer, IsBoxMind};
 ghost use Rattle.rl_box.specs.Steps.{box_step, box_target};
@@ -11,16 +12,16 @@ ghost use Rattle.rl_box.specs.Steps.{box_step, box_target};
 use crate::laws::{box_glances, box_steps};
 use crate::mind::{Answer, BoxMind, Work};
 use crate::{mail, points, reservations};
-use rl_base::{Layout, TrainId, Verb, WordKind, WordNo};
+use rl_base::{BoxId, Layout, TrainId, Verb, WordKind, WordNo};
 use rl_tables::BoxTable;
 use rl_words::{Letter, LockWord, MailWord, Path, ResvWord};
 
 /// Whether the lowest ten bits are those of a letter to the box that is asked.
-fn asks_box(b: &BoxTable, payload: u32) -> bool
-    requires { b.now.number.0 < 128 }
-    ensures { result ≡ asks_box b.now payload }
+fn asks_box(b: BoxId, payload: u32) -> bool
+    requires { b.0 < 128 }
+    ensures { result ≡ asks_box b payload }
 {
-    payload & 0x3ff == 1 + 8 * b.number.0
+    payload & 0x3ff == 1 + 8 * b.0
 }
 
 /// Whether the lowest three bits are those of points that have moved.
@@ -65,9 +66,7 @@ impl BoxMind {
             → result ≡ box_step b.now self.now kind payload }
         ensures kept { IfSome result (λ r. IsBoxMind lay.now b.now r.1) }
     {
-        // Where a glance says no there is no step, for the proof.
-        box_glances();
-        if !self.may_step(b, payload) {
+        if !self.may_step(b.number, payload) {
             return None;
         }
         let kind = lay.word_kind(w);
@@ -76,12 +75,15 @@ impl BoxMind {
         self.step(lay, b, kind, payload)
     }
 
-    /// Whether a step may fit a word at the payload, of whatever kind it is: a box that is ready takes a letter to it,
-    /// or finds that the points that it waits for have moved.
-    fn may_step(&self, b: &BoxTable, payload: u32) -> bool
-        requires { b.now.number.0 < 128 }
-        ensures { result ≡ may_step b.now self.now.work self.now.waiting payload }
+    /// A glance at a payload, before it is unpacked: a box that is ready takes a letter to it, or finds that the points
+    /// for which it waits have moved. Where it says no, the box of this number has no step there.
+    pub fn may_step(&self, b: BoxId, payload: u32) -> bool
+        requires { b.0 < 128 }
+        ensures glance { result ≡ may_step b self.now.work self.now.waiting payload }
+        ensures none { (table : BoxTable) (kind : WordKind) → table.number ≡ b → result ≡ false
+            → box_step table self.now kind payload ≡ None }
     {
+        box_glances();
         match self.work {
             Work::Ready => {
                 asks_box(b, payload) || (says_moved(payload) && self.waiting.is_some())
@@ -90,6 +92,7 @@ impl BoxMind {
         }
     }
 
+    #[inline(never)]
     #[tactic(auto, unfolding(crate::specs::Steps::box_step))]
     fn step(
         &self,

@@ -1,5 +1,5 @@
 -- A turn by what its node sees: the run that it leaves, the scan places, and the answer.
-use Rattle.std.proofs.Common.{◌≡◌, ℕ, ◌<◌, List, ◌∷◌, slice_get, slice_index_or, Some, refl, sym, ap, ◌∙◌, inl, inr, if◌then◌else◌, Bool, true, false, arith}
+use Rattle.std.proofs.Common.{◌≡◌, ℕ, ◌+◌, ◌<◌, ◌≤◌, List, ◌∷◌, slice_get, slice_index_or, Some, refl, sym, ap, ◌∙◌, inl, inr, if◌then◌else◌, Bool, true, false, arith}
 use Rattle.std.proofs.lemmas.Bool.{cases_eq, ne_eqb}
 use Rattle.std.proofs.lemmas.Bool.Decides.{nat_tests}
 use Rattle.std.proofs.lemmas.List.{length-set}
@@ -139,12 +139,26 @@ tries_kept core n look = by (is_ready ((state_of core).minds n)) look
     by true (Idles w was) = refl
     by true (Steps w was payload mind) = refl
 
+-- a turn makes one event at most
+events_kept : (core : Core) (n : ℕ) (look : Look) → (after_turn core n look).events ≤ core.events + 1
+events_kept core n look = by (is_ready ((state_of core).minds n)) look
+  where
+    by : (ready : Bool) (look : Look) → (let mine : Core = if ready then advanced (after_look core n look) n else after_look core n look in mine.events) ≤
+        core.events + 1
+    by false Rests = omega arith
+    by false (Idles w was) = omega arith
+    by false (Steps w was payload mind) = omega arith
+    by true Rests = omega arith
+    by true (Idles w was) = omega arith
+    by true (Steps w was payload mind) = omega arith
+
 -- a turn by its look, from any run that leads to the core
 pub record IsTurned (core new : Core) (n : ℕ) (answer : Turn) : Type 0 where
   pub turned : (d : Drive) → LeadsTo d core → LeadsTo (turn_of core.line core.tries d n) new
   pub answer_is : (d : Drive) → LeadsTo d core → answer ≡ answer_of core.line core.tries d n
   pub line : new.line ≡ core.line
   pub tries : new.tries ≡ core.tries
+  pub events : new.events ≤ core.events + 1
 
 pub turned_by : (core mid new : Core) (n : ℕ) (look : Look) (ready : Bool) (answer : Turn)
     → HasSizes core → n < node_count (layout_of core.line)
@@ -160,4 +174,5 @@ turned_by core mid new n look ready answer sizes there is mid_is ready_is new_is
       answer_is = λ d leads. says ∙ sym (answer_by core d n (slice_index_or core.scans n 0) look leads (place d leads) is);
       line = ap (λ (x : Core). x.line) after ∙ line_kept core n look;
       tries = ap (λ (x : Core). x.tries) after ∙ tries_kept core n look;
+      events = rw after (events_kept core n look);
     }

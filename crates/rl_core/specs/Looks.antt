@@ -14,6 +14,7 @@ use Rattle.rl_core.specs.Cores.{Core, state_of}
 use Rattle.rl_core.specs.Made.{event_in, made, advanced}
 use Rattle.rl_core.specs.declared.look.Who.{Who}
 use Rattle.rl_core.specs.declared.look.Who.TheVariants as whos
+use Rattle.rl_core.specs.declared.look.Glance.{Glance}
 use Rattle.rl_core.specs.declared.look.Look.{Look}
 use Rattle.rl_core.specs.declared.look.Look.TheVariants.{Rests, Idles, Steps}
 
@@ -44,6 +45,11 @@ IsLook tables c n scan (Idles w was) =
     Sees tables c n scan w.0 was × (node_step tables n (c.minds n) w.0 (payload_in was) ≡ None)
 IsLook tables c n scan (Steps w was payload mind) =
     Sees tables c n scan w.0 was × (node_step tables n (c.minds n) w.0 (payload_in was) ≡ Some (payload, mind))
+
+-- it has no step on what it sees, and is a ready box or isn't
+pub record IsGlance (tables : Tables) (c : CoreState) (n scan : ℕ) (glance : Glance) : Type 0 where
+  pub idles : IsLook tables c n scan (Idles glance.word glance.was)
+  pub ready : glance.ready ≡ is_ready (c.minds n)
 
 -- the core after a look, and what the turn then answers
 abbrev pub after_look : Core → ℕ → Look → Core

@@ -200,6 +200,7 @@ impl<'a> Core<'a> {
     }
 
     /// Makes the step of the node on the word: the word, the mind and the clock of the node are new.
+    #[inline(never)]
     pub(crate) fn step(
         &mut self,
         node: NodeNo,

@@ -5,6 +5,7 @@
 #![tactic(auto)]
 
 pub mod cores;
+mod glances;
 mod look;
 pub mod moves;
 mod redoing;

@@ -13,6 +13,15 @@ pub enum Who<'a> {
     Machine(BoxId, &'a MachineMind),
 }
 
+/// What a node sees where a glance at its target tells that it has no step there: the word and its whole value, and
+/// whether the node is a ready box.
+#[derive(Clone, Copy, Debug, PartialEq, Eq)]
+pub struct Glance {
+    pub word: WordNo,
+    pub was: u64,
+    pub ready: bool,
+}
+
 /// What a node sees where it looks at its target.
 #[derive(Clone, Copy, Debug, PartialEq, Eq)]
 pub enum Look {

@@ -180,6 +180,7 @@ fn run_move(line: &Line, t: TrainId, was: &RunWord, now: &RunWord) -> Option<Mov
 /// The move that the event is on the railway, by what its word said before and says after it; None for a step that
 /// is none there: a letter that is asked, taken, granted or heard, points that have been seen to stand, a sensor.
 /// The segments are numbered as in the tables.
+#[inline(never)]
 pub fn move_of(line: &Line, e: &Event) -> Option<Move>
     requires { e.now.word.0 < word_count (layout_of line.now) }
     ensures { result ≡ move_of line.now e.entry.now }

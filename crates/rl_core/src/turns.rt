@@ -1,4 +1,4 @@
-ghost use Rattle.std.specs.Prelude.{◌≡◌, ℕ, ◌<◌, ◌≤◌, ◌^◌, length, slice_get, slice_index_or, Some, None, if◌then◌else◌};
+ghost use Rattle.std.specs.Prelude.{◌≡◌, ℕ, ◌+◌, ◌<◌, ◌≤◌, ◌^◌, length, slice_get, slice_index_or, Some, None, if◌then◌else◌};
 ghost use Rattle.rl_base.specs.declared.layout.NodeKind.TheVariants as nodes;
 ghost use Rattle.rl_base.specs.Layout.{node_count, node_number, word_count};
 ghost use Rattle.rl_tables.specs.Starts.{layout_of};
@@ -10,7 +10,7 @@ ghost use Rattle.rl_core.specs.Looks.{IsWho, IsLook, after_look, answer_to};
 ghost use Rattle.rl_core.specs.Made.{advanced};
 
 use crate::cores::Core;
-use crate::look::{Look, Who};
+use crate::look::{Glance, Look, Who};
 use rl_base::{BoxId, NodeKind, NodeNo, TrainId};
 use rl_box::{BoxMind, Work};
 use rl_record::Turn;
@@ -20,7 +20,7 @@ use rl_train::{TrainMind, usable_tables};
 use rl_words::payload_of;
 
 /// Whether the box has nothing in hand.
-fn is_ready(mind: &BoxMind) -> bool
+pub(crate) fn is_ready(mind: &BoxMind) -> bool
     ensures { result ≡ has_nothing mind.now.work }
 {
     matches!(mind.work, Work::Ready)
@@ -140,7 +140,7 @@ impl<'a> Core<'a> {
     }
 
     /// The place at which the box of the node scans.
-    fn scan(&self, node: NodeNo) -> u32
+    pub(crate) fn scan(&self, node: NodeNo) -> u32
         requires { node.0 < node_count (layout_of self.now.line) }
         ensures place { result ≡ slice_index_or self.now.scans node.0 0 }
         ensures within { result ≤ length self.now.line.trains }
@@ -176,11 +176,22 @@ impl<'a> Core<'a> {
         }
     }
 
+    /// The turn of a node that has no step at its target, as a glance has told.
+    fn pass(&mut self, node: NodeNo, glance: Glance) -> Turn
+        requires there { node.0 < node_count (layout_of self.old.line) }
+        ensures core { self.new ≡ (if glance.ready then advanced self.old node.0 else self.old) }
+        ensures answer { result ≡ Turn.Idle glance.was }
+    {
+        self.go_on(node, glance.ready);
+        Turn::Idle(glance.was)
+    }
+
     /// One turn of the node: it looks at its target, and makes the step there, if it has one. Moved has the event;
     /// Idle has the whole word on which the node has no step; Rest comes exactly for a train at rest. Full never
     /// comes. A ready box goes on to its next scan place in any case: the mail words of all trains in order, and then
     /// its lock word. An event's stamp is one more than the greater of the node's clock and the word's stamp (Lamport
     /// 1978), and the node's clock is then that stamp. It takes no memory.
+    #[inline(always)]
     pub fn turn(&mut self, node: NodeNo) -> Turn
         requires there { node.0 < node_count (layout_of self.old.line) }
         requires few { self.old.events < 4294967295 }
@@ -189,6 +200,26 @@ impl<'a> Core<'a> {
         ensures answer { (d : Drive) → LeadsTo d self.old → result ≡ answer_of self.old.line self.old.tries d node.0 }
         ensures line { self.new.line ≡ self.old.line }
         ensures tries { self.new.tries ≡ self.old.tries }
+        ensures events { self.new.events ≤ self.old.events + 1 }
+    {
+        self.reached();
+        match self.glance(node) {
+            Some(glance) => self.pass(node, glance),
+            None => self.turn_to_target(node),
+        }
+    }
+
+    /// The turn of a node that has to look closely.
+    #[inline(never)]
+    fn turn_to_target(&mut self, node: NodeNo) -> Turn
+        requires there { node.0 < node_count (layout_of self.old.line) }
+        requires few { self.old.events < 4294967295 }
+        ensures turned { (d : Drive) → LeadsTo d self.old
+            → LeadsTo (turn_of self.old.line self.old.tries d node.0) self.new }
+        ensures answer { (d : Drive) → LeadsTo d self.old → result ≡ answer_of self.old.line self.old.tries d node.0 }
+        ensures line { self.new.line ≡ self.old.line }
+        ensures tries { self.new.tries ≡ self.old.tries }
+        ensures events { self.new.events ≤ self.old.events + 1 }
     {
         self.reached();
         match self.who(node) {

@@ -1,2 +1,3 @@
+mod Glances
 mod MachineLemmas
 mod TrackLemmas

@@ -1,3 +1,4 @@
+pub mod Glance
 pub mod Kept
 pub mod Machine
 pub mod Track

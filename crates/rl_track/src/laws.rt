@@ -1,4 +1,4 @@
-ghost use Rattle.std.specs.Prelude.{◌≡◌, ◌↔◌, ◌<◌, ℕ, Some};
+ghost use Rattle.std.specs.Prelude.{◌≡◌, ◌↔◌, ◌<◌, ℕ, false, Some, None};
 ghost use Rattle.rl_base.specs.declared.ids.BoxId.{BoxId};
 ghost use Rattle.rl_base.specs.declared.ids.TrainId.{TrainId};
 ghost use Rattle.rl_base.specs.declared.layout.Layout.{Layout};
@@ -6,6 +6,7 @@ ghost use Rattle.rl_base.specs.declared.layout.WordKind.{WordKind};
 ghost use Rattle.rl_words.specs.Word.{Word, PackedStep};
 ghost use Rattle.rl_track.specs.declared.machine.MachineMind.{MachineMind};
 ghost use Rattle.rl_track.specs.declared.track.TrackMind.{TrackMind};
+ghost use Rattle.rl_track.specs.Glance.{may_move, may_report};
 ghost use Rattle.rl_track.specs.Kept.{KeepsTrack, KeepsMachine};
 ghost use Rattle.rl_track.specs.Machine.{MachineStep, machine_on, machine_step};
 ghost use Rattle.rl_track.specs.Track.{IsTrackMind, TrackStep, track_on, track_step};
@@ -22,6 +23,15 @@ pub fn track_lines()
     ensures one { (t : TrainId) (mind : TrackMind) (word next other : Word) (after last : TrackMind)
         → TrackStep t mind word next after → TrackStep t mind word other last → (next ≡ other) × (after ≡ last) }
 {}
+
+/// Where a glance at a payload says no, the track has no step at any word with that payload.
+pub fn track_glances()
+    ensures { (t : TrainId) (mind : TrackMind) (kind : WordKind) (payload : ℕ)
+        → may_report mind payload ≡ false → track_step t mind kind payload ≡ None }
+{
+    // What is known of any word, for the proof.
+    words();
+}
 
 /// A step of a track changes the word that it looks at and owns, leaves a value of that word there, and a
 /// well-formed mind.
@@ -44,6 +54,15 @@ pub fn machine_lines()
     ensures one { (b : BoxId) (mind : MachineMind) (word next other : Word) (after last : MachineMind)
         → MachineStep b mind word next after → MachineStep b mind word other last → (next ≡ other) × (after ≡ last) }
 {}
+
+/// Where a glance at a payload says no, the machine has no step at any word with that payload.
+pub fn machine_glances()
+    ensures { (b : BoxId) (mind : MachineMind) (kind : WordKind) (payload : ℕ)
+        → may_move payload ≡ false → machine_step b mind kind payload ≡ None }
+{
+    // What is known of any word, for the proof.
+    words();
+}
 
 /// A step of a point machine changes the word that it looks at and owns, and leaves a value of that word there.
 pub fn machine_steps()

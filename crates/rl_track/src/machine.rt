@@ -1,9 +1,12 @@
-ghost use Rattle.std.specs.Prelude.{◌≡◌, ◌<◌, ◌≤◌, IfSome, option_map};
+ghost use Rattle.std.specs.Prelude.{◌≡◌, ◌<◌, ◌≤◌, false, None, IfSome, option_map};
 ghost use Rattle.rl_base.specs.declared.ids.BoxId.{BoxId};
+ghost use Rattle.rl_base.specs.declared.layout.WordKind.{WordKind};
 ghost use Rattle.rl_base.specs.Layout.{word_count, word_number};
 ghost use Rattle.rl_words.specs.Lock.{FitsLock};
+ghost use Rattle.rl_track.specs.Glance.{may_move};
 ghost use Rattle.rl_track.specs.Machine.{lock_turn, machine_step, machine_target};
 
+use crate::laws::machine_glances;
 use rl_base::{BoxId, Layout, WordKind, WordNo};
 use rl_words::LockWord;
 
@@ -24,6 +27,14 @@ fn on_lock(word: LockWord) -> Option<LockWord>
     }
 }
 
+/// Whether the lowest three bits are those of points that are asked for, or that move.
+fn may_move(payload: u32) -> bool
+    ensures { result ≡ may_move payload }
+{
+    let tag = payload & 7;
+    tag == 1 || tag == 2
+}
+
 impl MachineMind {
     /// The word at which the machine of the box looks.
     pub fn target(&self, lay: &Layout, b: BoxId) -> WordNo
@@ -38,9 +49,29 @@ impl MachineMind {
 
     /// The step that fits the payload of the target: the new payload and the mind after it. `None` exactly where
     /// no step fits.
-    #[tactic(auto, unfolding(crate::specs::Machine::machine_step))]
     pub fn act(&self, payload: u32) -> Option<(u32, MachineMind)>
         ensures step { (b : BoxId) → result ≡ machine_step b self.now (machine_target b) payload }
+    {
+        if self.may_step(payload) {
+            self.step(payload)
+        } else {
+            None
+        }
+    }
+
+    /// A glance at a payload, before it is unpacked: where it says no, the machine has no step there.
+    pub fn may_step(&self, payload: u32) -> bool
+        ensures glance { result ≡ may_move payload }
+        ensures none { (b : BoxId) (kind : WordKind) → result ≡ false → machine_step b self.now kind payload ≡ None }
+    {
+        machine_glances();
+        may_move(payload)
+    }
+
+    #[inline(never)]
+    #[tactic(auto, unfolding(crate::specs::Machine::machine_step))]
+    fn step(&self, payload: u32) -> Option<(u32, MachineMind)>
+        ensures { (b : BoxId) → result ≡ machine_step b self.now (machine_target b) payload }
     {
         let word = on_lock(LockWord::unpack(payload)?)?;
         Some((word.pack(), *self))

@@ -1,10 +1,13 @@
-ghost use Rattle.std.specs.Prelude.{◌≡◌, ◌<◌, ◌≤◌, IfSome};
+ghost use Rattle.std.specs.Prelude.{◌≡◌, ◌<◌, ◌≤◌, false, None, IfSome};
 ghost use Rattle.rl_base.specs.declared.ids.TrainId.{TrainId};
+ghost use Rattle.rl_base.specs.declared.layout.WordKind.{WordKind};
 ghost use Rattle.rl_base.specs.Layout.{word_count, word_number};
 ghost use Rattle.rl_words.specs.Run.{FitsRun};
 ghost use Rattle.rl_words.specs.Sense.{FitsSense};
+ghost use Rattle.rl_track.specs.Glance.{may_report};
 ghost use Rattle.rl_track.specs.Track.{start_track, IsTrackMind, run_turn, sense_turn, track_step, track_target};
 
+use crate::laws::track_glances;
 use rl_base::{Layout, TrainId, WordKind, WordNo};
 use rl_words::{RunWord, SenseWord};
 
@@ -53,8 +56,36 @@ impl TrackMind {
 
     /// The step that fits the payload of the target: the new payload and the mind after it. `None` exactly where
     /// no step fits.
-    #[tactic(auto, unfolding(crate::specs::Track::track_step))]
     pub fn act(&self, payload: u32) -> Option<(u32, TrackMind)>
+        requires { IsTrackMind self.now }
+        ensures step { (t : TrainId) → result ≡ track_step t self.now (track_target t self.now) payload }
+        ensures kept { IfSome result (λ r. IsTrackMind r.1) }
+    {
+        if self.may_step(payload) {
+            self.step(payload)
+        } else {
+            None
+        }
+    }
+
+    /// A glance at a payload, before it is unpacked: whether its lowest two bits are those of the word that the track
+    /// waits for. Where it says no, the track has no step there.
+    pub fn may_step(&self, payload: u32) -> bool
+        ensures glance { result ≡ may_report self.now payload }
+        ensures none { (t : TrainId) (kind : WordKind) → result ≡ false → track_step t self.now kind payload ≡ None }
+    {
+        track_glances();
+        let tag = match self.phase {
+            TrackPhase::HeadDue => 0,
+            TrackPhase::Watch | TrackPhase::TailDue => 1,
+            TrackPhase::LeaveDue => 2,
+        };
+        payload & 3 == tag
+    }
+
+    #[inline(never)]
+    #[tactic(auto, unfolding(crate::specs::Track::track_step))]
+    fn step(&self, payload: u32) -> Option<(u32, TrackMind)>
         requires { IsTrackMind self.now }
         ensures step { (t : TrainId) → result ≡ track_step t self.now (track_target t self.now) payload }
         ensures kept { IfSome result (λ r. IsTrackMind r.1) }

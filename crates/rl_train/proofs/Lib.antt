@@ -1,3 +1,4 @@
+mod Glances
 mod KeptLemmas
 mod Sentences
 mod StepLaws

@@ -1,3 +1,4 @@
+pub mod Glance
 pub mod Jobs
 pub mod Kept
 pub mod Mind

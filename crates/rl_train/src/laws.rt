@@ -1,4 +1,4 @@
-ghost use Rattle.std.specs.Prelude.{◌≡◌, ◌↔◌, ℕ, Some, slice_get};
+ghost use Rattle.std.specs.Prelude.{◌≡◌, ◌↔◌, ℕ, false, Some, None, slice_get};
 ghost use Rattle.rl_base.specs.declared.layout.Layout.{Layout};
 ghost use Rattle.rl_base.specs.declared.layout.WordKind.{WordKind};
 ghost use Rattle.rl_words.specs.Word.{Word, PackedStep};
@@ -6,6 +6,7 @@ ghost use Rattle.rl_tables.specs.declared.table.Tables.{Tables};
 ghost use Rattle.rl_tables.specs.declared.table.TrainTable.{TrainTable};
 ghost use Rattle.rl_tables.specs.Kept.{IsLine};
 ghost use Rattle.rl_train.specs.declared.mind.TrainMind.{TrainMind};
+ghost use Rattle.rl_train.specs.Glance.{may_hear};
 ghost use Rattle.rl_train.specs.Kept.{IsTrainOn, KeepsTrain};
 ghost use Rattle.rl_train.specs.Mind.{IsUsable};
 ghost use Rattle.rl_train.specs.Steps.{TrainStep, train_on, train_step};
@@ -26,6 +27,16 @@ pub fn train_lines()
 {
     // Letters that are compared field by field are one, for the proof.
     letters();
+}
+
+/// Where a glance at a payload says no, the train has no step at any word with that payload.
+pub fn train_glances()
+    ensures { (table : TrainTable) (mind : TrainMind) (kind : WordKind) (payload : ℕ)
+        → may_hear mind.waits mind.job payload ≡ false → train_step table mind kind payload ≡ None }
+{
+    // What is known of letters and of any word, for the proof.
+    letters();
+    words();
 }
 
 /// A step of a train changes the word that it looks at and owns, leaves a value of that word there, and a

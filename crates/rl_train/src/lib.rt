@@ -9,7 +9,7 @@ pub mod laws;
 pub mod mind;
 mod steps;
 
-pub use laws::{train_lines, train_steps, usable_tables};
+pub use laws::{train_glances, train_lines, train_steps, usable_tables};
 pub use mind::TrainMind;
 
 #[cfg(test)]

@@ -1,15 +1,18 @@
-ghost use Rattle.std.specs.Prelude.{◌≡◌, ◌<◌, ◌≤◌, true, false, Some, IfSome, option_map, option_and_then};
+ghost use Rattle.std.specs.Prelude.{◌≡◌, ◌<◌, ◌≤◌, true, false, Some, None, IfSome, option_map, option_and_then};
 ghost use Rattle.std.specs.Option.{option_copied};
+ghost use Rattle.rl_base.specs.declared.layout.WordKind.{WordKind};
 ghost use Rattle.rl_base.specs.Layout.{word_count, word_number};
 ghost use Rattle.rl_words.specs.Mail.{FitsMail};
 ghost use Rattle.rl_words.specs.Run.{FitsRun};
 ghost use Rattle.rl_words.specs.Sense.{FitsSense};
 ghost use Rattle.rl_tables.specs.declared.table.TrainTable.{TrainTable};
+ghost use Rattle.rl_train.specs.Glance.{may_hear};
 ghost use Rattle.rl_train.specs.Jobs.{after_no};
 ghost use Rattle.rl_train.specs.Mind.{row_of, is_resting, IsTrainMind, CanBeNamed, IsUsable};
 ghost use Rattle.rl_train.specs.Steps.{posted, heard, denied, on_mail, on_run, on_sense, train_step, train_target};
 
 use crate::jobs::{after_no, after_yes, asks, ends_step, is_near, is_pass, letter};
+use crate::laws::train_glances;
 use crate::mind::TrainMind;
 use rl_base::{Job, Layout, TrainId, WordKind, WordNo};
 use rl_tables::{StepRow, TrainTable};
@@ -38,8 +41,42 @@ impl TrainMind {
 
     /// The step that fits the payload of the target: the new payload and the mind after it. `None` exactly where
     /// no step fits.
-    #[tactic(auto, unfolding(crate::specs::Steps::train_step))]
     pub fn act(&self, t: &TrainTable, payload: u32) -> Option<(u32, TrainMind)>
+        requires table { IsUsable t.now }
+        requires mind { IsTrainMind t.now self.now }
+        ensures step { result ≡ option_and_then (λ kind. train_step t.now self.now kind payload)
+            (train_target t.now self.now) }
+        ensures kept { IfSome result (λ r. IsTrainMind t.now r.1) }
+    {
+        if self.may_step(payload) {
+            self.step(t, payload)
+        } else {
+            None
+        }
+    }
+
+    /// A glance at a payload, before it is unpacked: whether the train doesn't wait, or its lowest bits are those of the
+    /// word for which it waits, an answer, or that its tail is past the box. Where it says no, the train has no step
+    /// there.
+    pub fn may_step(&self, payload: u32) -> bool
+        ensures glance { result ≡ may_hear self.now.waits self.now.job payload }
+        ensures none { (table : TrainTable) (kind : WordKind) → result ≡ false
+            → train_step table self.now kind payload ≡ None }
+    {
+        train_glances();
+        if !self.waits {
+            true
+        } else if is_pass(self.job) {
+            payload & 3 == 2
+        } else {
+            let tag = payload & 7;
+            tag == 3 || tag == 4
+        }
+    }
+
+    #[inline(never)]
+    #[tactic(auto, unfolding(crate::specs::Steps::train_step))]
+    fn step(&self, t: &TrainTable, payload: u32) -> Option<(u32, TrainMind)>
         requires table { IsUsable t.now }
         requires mind { IsTrainMind t.now self.now }
         ensures step { result ≡ option_and_then (λ kind. train_step t.now self.now kind payload)
