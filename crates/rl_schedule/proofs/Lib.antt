@@ -1,5 +1,5 @@
 mod Driving
-mod Pieces
+pub mod Pieces
 mod WordsOf
 mod Named
 mod Reporting

@@ -12,7 +12,8 @@ use Rattle.rl_runs.specs.Turn.{Drive, start_drive, turn_of, driven}
 use Rattle.rl_safety.specs.Moves.{move_of, moves_of}
 use Rattle.rl_core.specs.Cores.{Core, LeadsTo, state_of}
 use Rattle.rl_core.specs.Reports.{AreMindsAfter}
-use Rattle.rl_schedule.specs.Driven.{IsDriven}
+use Rattle.rl_schedule.specs.Driven.{IsDriven, schedule_report}
+use Rattle.rl_base.specs.declared.limits.TheConstants.{MAX_MOVES}
 use Rattle.rl_base.specs.Layout.{node_count}
 use Rattle.rl_tables.specs.Starts.{layout_of}
 use Rattle.rl_schedule.specs.declared.schedules.Item.{Item}
@@ -70,6 +71,17 @@ pub few_scheduled : (tables : Tables) (tries : ℕ) (items : List Item) (moves :
     → length moves < 4294967296
 few_scheduled tables tries items moves core was fits =
     omega (arith, was.few, length_turns (node_count (layout_of tables)) items, fits.few)
+
+-- the report has no more moves than there are turns
+pub few_in_report : (tables : Tables) (tries : ℕ) (nodes : List ℕ) → length (schedule_report tables tries nodes).moves ≤ length nodes
+few_in_report tables tries nodes =
+    omega (arith, few_moves tables (driven tables tries nodes).events, events_driven tables tries start_drive nodes)
+
+-- and that of a schedule no more than a report may have
+pub few_reported : (tables : Tables) (tries : ℕ) (items : List Item) → IsScheduleFor (node_count (layout_of tables)) items
+    → length (schedule_report tables tries (turns_of (node_count (layout_of tables)) items)).moves ≤ MAX_MOVES
+few_reported tables tries items fits =
+    omega (arith, few_in_report tables tries (turns_of (node_count (layout_of tables)) items), length_turns (node_count (layout_of tables)) items, fits.few)
 
 -- what holds of the one value that a result can have
 pub of_value : {T E : Type 0} (P : T → Type 0) (r : Result T E) (value : T) → IfOk r (λ x. x ≡ value) → P value → IfOk r P

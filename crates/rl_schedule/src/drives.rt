@@ -14,17 +14,19 @@ use rl_tables::Line;
 use std::alloc::Global;
 
 /// The move of a turn.
-fn move_in(line: &Line, turn: Turn) -> Option<Move>
-    requires { IsOnLine line.now turn }
-    ensures { result ≡ move_in line.now turn }
+#[inline(always)]
+fn move_in(line: &Line, turn: &Turn) -> Option<Move>
+    requires { IsOnLine line.now turn.now }
+    ensures { result ≡ move_in line.now turn.now }
 {
     match turn {
-        Turn::Moved(e) => move_of(line, &e),
+        Turn::Moved(e) => move_of(line, e),
         Turn::Idle(_) | Turn::Rest | Turn::Full => None,
     }
 }
 
 /// A turn of the node; its move is put behind the others. Where there is no place for a move, it isn't made.
+#[inline(always)]
 fn drive_turn(core: &mut Core<'_>, node: NodeNo, moves: &mut Vec<Move>) -> Result<(), NoMemory>
     requires there { node.0 < node_count (layout_of core.old.line) }
     requires few { core.old.events < 4294967295 }
@@ -34,7 +36,7 @@ fn drive_turn(core: &mut Core<'_>, node: NodeNo, moves: &mut Vec<Move>) -> Resul
     moves.reserve(1)?;
     core.reached();
     let turn = core.turn(node);
-    if let Some(m) = move_in(core.line(), turn) {
+    if let Some(m) = move_in(core.line(), &turn) {
         moves.push_reserved(m);
     }
     Ok(())

@@ -15,7 +15,7 @@ pub mod roles;
 pub mod schedules;
 
 pub use drives::drive;
-pub use laws::nodes_of_networks;
+pub use laws::{few_moves, nodes_of_networks};
 pub use reading::read_schedule;
 pub use refusal::ScheduleRefusal;
 pub use reports::report;

@@ -27,13 +27,20 @@ pub(crate) enum Given<'a> {
 }
 
 /// The first place of the byte, or the length where it stands nowhere.
+#[inline(always)]
 fn place_of(byte: u8, text: &[u8]) -> usize
     ensures { result ≡ position_or_len (λ b. b == byte) text.now }
 {
-    text.iter().position(|b| *b == byte).unwrap_or(text.len())
+    for (i, b) in text.iter().enumerate() {
+        if *b == byte {
+            return i;
+        }
+    }
+    text.len()
 }
 
 /// The first word of a text, and what follows the space after it.
+#[inline(always)]
 fn first_word(text: &[u8]) -> (&[u8], Option<&[u8]>)
     ensures { words_of text.now ≡ result.0.now ∷ words_in result.1 }
 {
@@ -49,16 +56,12 @@ fn first_word(text: &[u8]) -> (&[u8], Option<&[u8]>)
 fn role_of(word: &[u8]) -> Option<Role>
     ensures { result ≡ role_of word.now }
 {
-    if word == b"train".as_slice() {
-        Some(Role::Train)
-    } else if word == b"track".as_slice() {
-        Some(Role::Track)
-    } else if word == b"box".as_slice() {
-        Some(Role::SwitchBox)
-    } else if word == b"machine".as_slice() {
-        Some(Role::Machine)
-    } else {
-        None
+    match word {
+        b"train" => Some(Role::Train),
+        b"track" => Some(Role::Track),
+        b"box" => Some(Role::SwitchBox),
+        _ if word == b"machine".as_slice() => Some(Role::Machine),
+        _ => None,
     }
 }
 
@@ -102,13 +105,13 @@ fn turns_of(node: &[u8], count: u32) -> Option<Given<'_>>
 fn order_of_two<'a>(first: &[u8], second: &'a [u8]) -> Option<Given<'a>>
     ensures { option_map ordered result ≡ order_of_two first.now second.now }
 {
-    if first == b"turn".as_slice() {
-        turns_of(second, 1)
-    } else if first == b"round".as_slice() {
-        let count = count_of(second)?;
-        Some(Given::Rounds { count })
-    } else {
-        None
+    match first {
+        b"turn" => turns_of(second, 1),
+        b"round" => {
+            let count = count_of(second)?;
+            Some(Given::Rounds { count })
+        }
+        _ => None,
     }
 }
 

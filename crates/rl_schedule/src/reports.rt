@@ -1,5 +1,6 @@
-ghost use Rattle.std.specs.Prelude.{◌≡◌, ◌≤◌, IfOk};
+ghost use Rattle.std.specs.Prelude.{◌≡◌, ◌≤◌, length, IfOk};
 ghost use Rattle.rl_base.specs.Layout.{node_count};
+ghost use Rattle.rl_base.specs.declared.limits.TheConstants.{MAX_MOVES};
 ghost use Rattle.rl_model.specs.declared.network.NetworkPlan.{NetworkPlan};
 ghost use Rattle.rl_model.specs.Network.{IsNetwork};
 ghost use Rattle.rl_model.specs.Reports.{IsReportOf, IsRightReport};
@@ -30,6 +31,8 @@ pub fn report(
     // It is the report of the turns.
     ensures report { IfOk result (λ r.
         r ≡ schedule_report line.now tries (turns_of (node_count (layout_of line.now)) schedule.now)) }
+    // It has no more moves than a report may have.
+    ensures few { IfOk result (λ r. length r.moves ≤ MAX_MOVES) }
     // On the tables of a network it is right, and one of the network.
     ensures right { (net : NetworkPlan) → IsNetwork net → AreTablesOf net line.now → IfOk result (IsRightReport net) }
     ensures of { (net : NetworkPlan) → IsNetwork net → AreTablesOf net line.now → IfOk result (IsReportOf net) }
