@@ -168,9 +168,12 @@ impl Rails {
     }
 
     /// The words at the end, once every seat was taken in. Some run has just the histories that were kept, and leaves
-    /// these words and the minds that were kept; and so does the merge of the histories.
+    /// these words and the minds that were kept; and so does the merge of the histories. The line and the tries are
+    /// within their limits, as they were when the words were laid.
     pub fn close(self) -> Words
         requires { length (taken self) ≡ handed self }
+        ensures line { IsLine (line_of self) }
+        ensures tries { tries_of self ≤ 1000 }
         ensures run { (log : List Event) × IsReplay (line_of self) (tries_of self) (taken self) result log }
         ensures merge { (merged : List Event) → IsMerge (kept_history (taken self)) merged
             → IsReplay (line_of self) (tries_of self) (taken self) result merged }

@@ -1,0 +1,9 @@
+pub mod Resting
+pub mod Turning
+pub mod Staying
+pub mod Rows
+pub mod KeptParts
+pub mod LastRun
+pub mod Counted
+pub mod Outcomes
+pub mod Crossing

@@ -1,0 +1,40 @@
+-- What the nodes of some rails did together, once all of them are parted: one run, and the words and the minds that it
+-- leaves.
+use Rattle.std.specs.Prelude.{◌≡◌, ℕ, ◌*◌, ◌^◌, ◌<◌, ◌≤◌, List, length, map, reverse, All, slice_get, Some}
+use Rattle.rl_record.specs.declared.event.Event.{Event}
+use Rattle.rl_record.specs.Records.{Record}
+use Rattle.rl_runs.specs.declared.mind.Mind.{Mind}
+use Rattle.rl_runs.specs.State.{CoreState}
+use Rattle.rl_runs.specs.Run.{IsRun, state}
+use Rattle.rl_rule.specs.declared.rails.Rails.{Rails}
+use Rattle.rl_rule.specs.Seats.{line_of, tries_of}
+use Rattle.rl_nodes.specs.declared.parts.Part.{Part}
+
+-- the records and the minds with which the nodes were parted, in order
+abbrev pub records_of : List Part → List Record
+records_of parts = map (λ part. part.«record») parts
+
+abbrev pub minds_of : List Part → List Mind
+minds_of parts = map (λ part. part.mind) parts
+
+-- the events, oldest first, are a run of the line of the rails and the tries of its trains
+abbrev pub IsRunOf : Rails → List Event → Type 0
+IsRunOf rails events = IsRun (line_of rails) (tries_of rails) (reverse events)
+
+-- where the events, oldest first, lead
+abbrev pub state_of : Rails → List Event → CoreState
+state_of rails events = state (line_of rails) (tries_of rails) (reverse events)
+
+-- mind n is that of node n
+abbrev pub AreMinds : (ℕ → Mind) → List Mind → Type 0
+AreMinds mind_at minds = (n : ℕ) (mind : Mind) → slice_get minds n ≡ Some mind → mind ≡ mind_at n
+
+-- the most attempts that all trains can post
+abbrev pub most_attempts : Rails → ℕ
+most_attempts rails = length (line_of rails).trains * tries_of rails
+
+-- a node makes at most 19 events for each attempt, and all nodes together at most 39
+pub record AreFew (attempts : ℕ) (records : List Record) (events : List Event) : Type 0 where
+  pub each : All (λ r. length r.events ≤ 19 * attempts) records
+  pub all : length events ≤ 39 * attempts
+  pub fits : 39 * attempts < 2 ^ 32

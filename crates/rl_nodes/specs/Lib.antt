@@ -1,0 +1,9 @@
+pub mod Nodes
+pub mod Turns
+pub mod Looks
+pub mod Laying
+pub mod Parts
+pub mod Parting
+pub mod Lending
+pub mod Left
+pub mod Finished

@@ -1,0 +1,110 @@
+ghost use Rattle.std.specs.Prelude.{◌≡◌, ◌<◌, ◌≤◌, IfOk};
+ghost use Rattle.rl_base.specs.Layout.{node_count};
+ghost use Rattle.rl_tables.specs.Starts.{layout_of};
+ghost use Rattle.rl_runs.specs.State.{start_mind};
+ghost use Rattle.rl_rule.specs.Loads.{most_of_node};
+ghost use Rattle.rl_rule.specs.Seats.{line_of, tries_of, walk_of};
+ghost use Rattle.rl_nodes.specs.Nodes.{AreNodesOf};
+ghost use Rattle.rl_nodes.specs.Laying.{AreSeatsOf, AreStartNodes, AreLaid, IsStartSeat, start_node};
+
+use crate::nodes::{Nodes, RunNode};
+use rl_base::{NoMemory, NodeKind, NodeNo, Sequence};
+use rl_box::BoxMind;
+use rl_minds::kept_minds;
+use rl_record::Record;
+use rl_rule::{NodeSeat, Rails};
+use rl_runs::{Mind, numbered};
+use rl_tables::Line;
+use rl_track::{MachineMind, TrackMind};
+use rl_train::TrainMind;
+use std::alloc::Global;
+
+pub type Seats = Sequence<NodeSeat>;
+
+/// The mind of the node at the start.
+fn start_mind(line: &Line, n: NodeNo, tries: u32) -> Mind
+    requires { n.0 < node_count (layout_of line.now) }
+    ensures { result ≡ start_mind line.now tries n.0 }
+{
+    numbered();
+    match line.layout().node_kind(n) {
+        NodeKind::Train(_) => Mind::Train(TrainMind::start(tries)),
+        NodeKind::Track(_) => Mind::Track(TrackMind::start()),
+        NodeKind::Box(_) => Mind::Box(BoxMind::start()),
+        NodeKind::Machine(_) => Mind::Machine(MachineMind),
+    }
+}
+
+/// A node at the start, at its seat.
+fn lay_node<'a>(
+    alloc: Global,
+    rails: &'a Rails,
+    line: &'a Line,
+    seat: NodeSeat,
+    tries: u32,
+    events: u32,
+) -> RunNode<'a>
+    requires line { line.now ≡ line_of rails.now }
+    requires tries { tries ≡ tries_of rails.now }
+    requires few_tries { tries ≤ 1000 }
+    requires few_events { events ≤ most_of_node }
+    requires there { (walk_of seat).node.0 < node_count (layout_of line.now) }
+    requires seat { IsStartSeat rails.now (walk_of seat).node.0 seat }
+    ensures { result ≡ start_node rails.now events (walk_of seat).node.0 }
+{
+    kept_minds();
+    let mind = start_mind(line, seat.node(), tries);
+    RunNode {
+        rails,
+        line,
+        seat,
+        mind,
+        scan: 0,
+        log: Record::new(alloc, events),
+        turns: 0,
+    }
+}
+
+/// A node at each seat, in order.
+fn laid<'a>(
+    alloc: Global,
+    rails: &'a Rails,
+    line: &'a Line,
+    seats: Seats,
+    tries: u32,
+    events: u32,
+) -> Result<Nodes<'a>, NoMemory>
+    requires line { line.now ≡ line_of rails.now }
+    requires tries { tries ≡ tries_of rails.now }
+    requires few_tries { tries ≤ 1000 }
+    requires few_events { events ≤ most_of_node }
+    requires seats { AreSeatsOf rails.now seats }
+    ensures { IfOk result (AreLaid rails.now events seats) }
+{
+    let mut nodes = Nodes::new(alloc);
+    for seat in seats.into_vec() {
+        nodes.push(lay_node(alloc, rails, line, seat, tries, events))?;
+    }
+    Ok(nodes)
+}
+
+/// A node at each seat, in order, at its start, with an empty record of `events` events.
+pub fn lay_nodes<'a>(
+    alloc: Global,
+    rails: &'a Rails,
+    line: &'a Line,
+    seats: Seats,
+    tries: u32,
+    events: u32,
+) -> Result<Nodes<'a>, NoMemory>
+    requires line { line.now ≡ line_of rails.now }
+    requires tries { tries ≡ tries_of rails.now }
+    requires few_tries { tries ≤ 1000 }
+    requires some_events { 1 ≤ events }
+    requires few_events { events ≤ most_of_node }
+    requires seats { AreSeatsOf rails.now seats }
+    ensures nodes { IfOk result (AreNodesOf rails.now events) }
+    ensures start { IfOk result (AreStartNodes rails.now events) }
+{
+    laid(alloc, rails, line, seats, tries, events)
+}
