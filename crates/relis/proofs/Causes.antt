@@ -2,16 +2,18 @@
 use Rattle.std.proofs.Common.{Result, Ok, Err, IfOk, ◌≡◌, ◌≢◌, ◌<◌, ℕ, List, [], ◌∷◌, Option, Some, None, IsSome, Contains, inl, inr, refl, sym, ap, subst, arith, ◌∙◌}
 use Rattle.std.specs.Io.KnownBytes.{Appends}
 use Rattle.rl_outside.specs.Causes.{Rose}
+use Rattle.rl_model.specs.declared.network.NetworkPlan.{NetworkPlan}
 use Rattle.rl_cli.specs.declared.order.Order.{Order}
-use Rattle.relis.specs.Answers.{Held, Counts, NoneRose, OneRose, CouldNotRead, IsCarriedOut, EndsAs, IsOutcome, LeadsTo, UnlessMemory, names_of}
-use Rattle.relis.specs.Calls.{Outside, IsWritten, HasCause}
+use Rattle.rl_cli.specs.declared.order.Order.TheVariants.{Run}
+use Rattle.relis.specs.Answers.{Held, Counts, HoldsNetwork, NoneRose, OneRose, CouldNotRead, IsCarriedOut, EndsAs, IsOutcome, LeadsTo, UnlessMemory, names_of}
+use Rattle.relis.specs.Calls.{Outside, IsWritten, HasCause, AsksForRun}
 use Rattle.relis.specs.Commands.{End}
 use Rattle.relis.specs.Lines.{status_line}
 use Rattle.relis.specs.Orders.{files_of}
 use Rattle.relis.specs.declared.status.Status.{Status}
 use Rattle.relis.specs.declared.status.Status.TheVariants as status
 use Rattle.relis.proofs.Fetches.{contains_first, contains_later}
-use Rattle.relis.proofs.OneEnd.{status_of, one_end}
+use Rattle.relis.proofs.OneEnd.{status_of, one_end, run_end}
 
 -- an end other than want of memory has its cause, with its line
 pub leads_on : (asked : Option Order) (held : Held) (before now : Counts) (answer : Status) (text : List ℕ) → (answer ≡ status.NoMemory → ⊥) →
@@ -129,3 +131,27 @@ same_answer asked held before now found answer text other all still found_leads 
     (stays (names_of asked) before before (λ n. refl))
     (outcome asked held before now found text found_leads) (outcome asked held before before answer other leads)
     ∙ status_of-end_of answer other
+
+-- a run of an accepted network is done
+run_outcome : (held : Held) (before now : Counts) (name : List ℕ) (tries : ℕ) (workers : Option ℕ) (round : ℕ) (net : NetworkPlan) (e : End) →
+    IsSome (held name) → HoldsNetwork held name net → (OneRose (name ∷ []) before now → ⊥) →
+    EndsAs (Run name tries workers round) held before now e → status_of e ≡ status.Done
+run_outcome held before now name tries workers round net e told holds still ends =
+    by_way (ends_by (Run name tries workers round) held before now e ends)
+  where
+    by_way : EndsBy (Run name tries workers round) held before now e → status_of e ≡ status.Done
+    by_way (unread is why) = absurd (still (rose held before now (name ∷ []) why))
+    by_way (carried none work) = run_end held name tries workers round net e told holds work
+
+pub run_is_done : (asked : Option Order) (outside : Outside) (before now : Counts) (answer : Status) (text : List ℕ) → AsksForRun asked outside →
+    ((name : List ℕ) → Contains (names_of asked) name → IsSome (outside.held name)) → (OneRose (names_of asked) before now → ⊥) →
+    LeadsTo asked outside.held before now answer text → answer ≡ status.Done
+run_is_done asked outside before now answer text asks all still leads =
+    let order : Order = Run asks.name asks.tries asks.workers asks.round in
+    let held = outside.held in
+    let told : (name : List ℕ) → Contains (names_of (Some order)) name → IsSome (held name) =
+    subst (λ (o : Option Order). (name : List ℕ) → Contains (names_of o) name → IsSome (held name)) asks.run all in
+    sym (status_of-end_of answer text)
+    ∙ run_outcome held before now asks.name asks.tries asks.workers asks.round asks.net (end_of answer text) (told asks.name (contains_first asks.name []))
+    asks.holds (subst (λ (o : Option Order). OneRose (names_of o) before now → ⊥) asks.run still)
+    (subst (λ (o : Option Order). IsOutcome o held before now (end_of answer text)) asks.run (outcome asked held before now answer text leads))

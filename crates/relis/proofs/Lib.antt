@@ -6,4 +6,5 @@ pub mod Fetches
 pub mod Judgements
 pub mod OneEnd
 pub mod RingSize
+pub mod RunLaws
 pub mod Schedules

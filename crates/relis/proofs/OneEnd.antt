@@ -16,8 +16,9 @@ use Rattle.rl_schedule.specs.Readings.{nodes_of, schedule_of}
 use Rattle.rl_schedule.specs.Refusals.{refusal_number, refusal_place}
 use Rattle.rl_cli.specs.declared.order.Order.{Order}
 use Rattle.rl_cli.specs.declared.order.Order.TheVariants.{Check, Tables, Rounds, Drive, Run, Audit, Make}
-use Rattle.relis.specs.Answers.{Held, AreTold, IsCarriedOut}
-use Rattle.relis.specs.Commands.{End, ChecksTo, PrintsTo, DrivesRoundsTo, DrivesScheduleTo, AuditsTo, IsReportRefusal, faulty, long, MakesTo, IsWork, IsWorkAlone, IsWorkOn, refused, accepted}
+use Rattle.relis.specs.Answers.{Held, AreTold, HoldsNetwork, IsCarriedOut}
+use Rattle.relis.specs.Commands.{End, ChecksTo, PrintsTo, DrivesRoundsTo, DrivesScheduleTo, RunsTo, AuditsTo, IsReportRefusal, faulty, long, MakesTo, IsWork, IsWorkAlone, IsWorkOn, IsWorkOnText, refused, accepted}
+use Rattle.relis.specs.Networks.{IsAcceptedAs}
 use Rattle.relis.specs.Orders.{files_of}
 use Rattle.relis.specs.declared.status.Status.{Status}
 use Rattle.relis.specs.declared.status.Status.TheVariants as status
@@ -148,6 +149,11 @@ one_make n (Ok t) (Ok u) one other = refl
 one_make n (Err s) f one other = absurd one
 one_make n (Ok t) (Err s) one other = absurd other
 
+-- a run ends only with a text
+runs_to_done : (net : NetworkPlan) (tries : ℕ) (e : End) → RunsTo net tries e → status_of e ≡ status.Done
+runs_to_done net tries (Ok text) work = refl
+runs_to_done net tries (Err answer) work = absurd work
+
 one_work_on : (order : Order) (net : NetworkPlan) (others : List (List ℕ)) (e f : End) → IsNetwork net → IsWorkOn order net others e →
     IsWorkOn order net others f → status_of e ≡ status_of f
 one_work_on (Check name) net others e f is one other = one_check net e f one other
@@ -157,7 +163,7 @@ one_work_on (Audit name report) net [] e f is one other = absurd one
 one_work_on (Audit name report) net (bytes ∷ others) e f is one other = one_audit net bytes e f is one other
 one_work_on (Drive name schedule tries) net [] e f is one other = absurd one
 one_work_on (Drive name schedule tries) net (bytes ∷ others) e f is one other = one_schedule net bytes tries e f one other
-one_work_on (Run name tries workers round) net others e f is one other = absurd one
+one_work_on (Run name tries workers round) net others e f is one other = runs_to_done net tries e one ∙ sym (runs_to_done net tries f other)
 one_work_on (Make n) net others e f is one other = absurd one
 
 one_work_alone : (order : Order) (e f : End) → IsWorkAlone order e → IsWorkAlone order f → status_of e ≡ status_of f
@@ -203,3 +209,22 @@ pub one_end : (held : Held) (order : Order) (e f : End) → ((name : List ℕ) �
 one_end held order e f all one other =
     one_work order one.contents e f one.work
     (subst (λ (x : List (List ℕ)). IsWork order x f) (same_contents held (files_of order) other.contents one.contents all other.told one.told) other.work)
+
+-- the work of a run on an accepted network is done
+run_work : (name : List ℕ) (tries : ℕ) (workers : Option ℕ) (round : ℕ) (net : NetworkPlan) (bytes : List ℕ) (others : List (List ℕ)) (e : End) →
+    IsAcceptedAs bytes net → IsWorkOnText (Run name tries workers round) bytes others e → status_of e ≡ status.Done
+run_work name tries workers round net bytes others e is (refused n p h) =
+    absurd (let no = sym (judged-refused bytes n p h) ∙ judged-accepted bytes net is in cc)
+run_work name tries workers round net bytes others e is (accepted other f k work) = runs_to_done other tries f work
+
+-- and so is a run whose file, which is told, holds such a network
+pub run_end : (held : Held) (name : List ℕ) (tries : ℕ) (workers : Option ℕ) (round : ℕ) (net : NetworkPlan) (e : End) → IsSome (held name) →
+    HoldsNetwork held name net → IsCarriedOut held (Run name tries workers round) e → status_of e ≡ status.Done
+run_end held name tries workers round net e told holds out = by_contents out.contents out.told out.work
+  where
+    by_contents : (contents : List (List ℕ)) → AreTold held (name ∷ []) contents → IsWork (Run name tries workers round) contents e →
+        status_of e ≡ status.Done
+    by_contents [] are work = absurd are
+    by_contents (bytes ∷ others) are work =
+        run_work name tries workers round net bytes others e
+        (subst (λ (b : List ℕ). IsAcceptedAs b net) (same_told (held name) holds.bytes bytes told holds.told are.0) holds.accepted) work

@@ -1,10 +1,12 @@
 -- What a call of the program promises of its status, of the files and of the sink.
-use Rattle.std.specs.Prelude.{◌≡◌, ◌≢◌, ℕ, ◌≤◌, ◌⊎◌, List, Contains, Option, IsSome}
+use Rattle.std.specs.Prelude.{◌≡◌, ◌≢◌, ℕ, ◌≤◌, ◌⊎◌, List, Contains, Option, Some, IsSome}
 use Rattle.std.specs.Io.KnownBytes.{Appends}
 use Rattle.rl_outside.specs.Causes.{RoseOrFull}
 use Rattle.rl_outside.specs.Sink.{AppendsPart}
+use Rattle.rl_model.specs.declared.network.NetworkPlan.{NetworkPlan}
 use Rattle.rl_cli.specs.declared.order.Order.{Order}
-use Rattle.relis.specs.Answers.{Held, Counts, LeadsTo, OneRose, names_of}
+use Rattle.rl_cli.specs.declared.order.Order.TheVariants.{Run}
+use Rattle.relis.specs.Answers.{Held, Counts, HoldsNetwork, LeadsTo, OneRose, names_of}
 use Rattle.relis.specs.declared.status.Status.{Status}
 use Rattle.relis.specs.declared.status.Status.TheVariants as status
 
@@ -51,6 +53,16 @@ pub record NothingFailed (asked : Option Order) (before now : Outside) : Type 0 
 abbrev pub AllTold : Option Order → Outside → Type 0
 AllTold asked outside = (name : List ℕ) → IsNamed asked name → IsSome (outside.held name)
 
+-- the order is a run, and its file holds the text of an accepted network
+pub record AsksForRun (asked : Option Order) (outside : Outside) : Type 0 where
+  pub name : List ℕ
+  pub tries : ℕ
+  pub workers : Option ℕ
+  pub round : ℕ
+  pub run : asked ≡ Some (Run name tries workers round)
+  pub net : NetworkPlan
+  pub holds : HoldsNetwork outside.held name net
+
 -- What a call promises that was asked for this order, or whose words give none. It knew `before` of the outside as it
 -- began, `now` is known as it returns
 pub record IsCall (asked : Option Order) (before now : Outside) (result : Status) : Type 0 where
@@ -65,6 +77,9 @@ pub record IsCall (asked : Option Order) (before now : Outside) (result : Status
   -- where nothing fails and the files tell what they hold, it is the one answer to which they lead, or memory ran out
   pub complete : NothingFailed asked before now → AllTold asked before → (answer : Status) (text : List ℕ) →
       HasCause asked before before answer text → (result ≡ answer) ⊎ (result ≡ status.NoMemory)
+  -- a run may end with one of many texts: of an accepted network it is done, or memory ran out
+  pub runs : NothingFailed asked before now → AllTold asked before → AsksForRun asked before →
+      (result ≡ status.Done) ⊎ (result ≡ status.NoMemory)
   -- the files stay, and only those that the words name are fetched
   pub files_stay : (name : List ℕ) → now.held name ≡ before.held name
   pub others : (name : List ℕ) → (IsNamed asked name → ⊥) → now.file_faults name ≡ before.file_faults name

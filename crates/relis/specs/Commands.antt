@@ -24,11 +24,12 @@ use Rattle.rl_audit.specs.declared.verdict.Verdict.TheVariants.{Safe, Bad}
 use Rattle.rl_audit.specs.Verdicts.{IsVerdictOn}
 use Rattle.rl_make.specs.Ring.{ring}
 use Rattle.rl_cli.specs.declared.order.Order.{Order}
-use Rattle.rl_cli.specs.declared.order.Order.TheVariants.{Check, Tables as TablesOrder, Rounds, Drive, Audit, Make}
+use Rattle.rl_cli.specs.declared.order.Order.TheVariants.{Check, Tables as TablesOrder, Rounds, Drive, Run, Audit, Make}
 use Rattle.relis.specs.declared.made.TheConstants.{MADE_ROUNDS}
 use Rattle.relis.specs.Lines.{accepted_line, safe_line}
 use Rattle.relis.specs.Summaries.{make_text}
 use Rattle.relis.specs.Networks.{IsAcceptedAs, IsRefusedAs}
+use Rattle.relis.specs.Runs.{IsRunText}
 use Rattle.relis.specs.declared.status.Status.{Status}
 use Rattle.relis.specs.declared.status.Status.TheVariants as status
 
@@ -93,6 +94,11 @@ DrivesScheduleTo net schedule tries (Err (status.Refused number place)) =
     × (number ≡ refusal_number refusal) × (place ≡ refusal_place refusal)
 DrivesScheduleTo net schedule tries (Err answer) = ⊥
 
+-- `run` prints the report of a run to rest. Many are possible, since nothing says in which order the nodes work
+abbrev pub RunsTo : NetworkPlan → (tries : ℕ) → End → Type 0
+RunsTo net tries (Ok text) = IsRunText net tries text
+RunsTo net tries (Err answer) = ⊥
+
 -- the number and the place are those of the refusal of a report
 pub data IsReportRefusal (net : NetworkPlan) (report : List ℕ) : ℕ → Place → Type 0 where
   faulty : (n : ℕ) → (IsLong net report → ⊥) → IsFirstFault net report n → IsReportRefusal net report 19 (ReportLine n)
@@ -125,6 +131,7 @@ IsWorkOn (Check name) net others end = ChecksTo net end
 IsWorkOn (TablesOrder name) net others end = PrintsTo net end
 IsWorkOn (Rounds name rounds tries) net others end = DrivesRoundsTo net rounds tries end
 IsWorkOn (Drive name schedule tries) net (bytes ∷ others) end = DrivesScheduleTo net bytes tries end
+IsWorkOn (Run name tries workers round) net others end = RunsTo net tries end
 IsWorkOn (Audit name report) net (bytes ∷ others) end = AuditsTo net bytes end
 IsWorkOn order net others end = ⊥
 

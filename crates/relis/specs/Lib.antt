@@ -2,8 +2,10 @@ pub mod Answers
 pub mod Calls
 pub mod Commands
 pub mod Exits
+pub mod Judged
 pub mod Lines
 pub mod Networks
 pub mod Orders
 pub mod Reading
+pub mod Runs
 pub mod Summaries

@@ -2,8 +2,8 @@ ghost use Rattle.std.specs.Prelude.{◌≡◌, IfOk, OnErr, IfErr};
 ghost use Rattle.std.specs.IoError.{error_kind};
 ghost use Rattle.std.specs.Process.{exit_status};
 ghost use Rattle.std.specs.Vec.Iter.{into_iter_items};
+ghost use Rattle.rl_cli.specs.Orders.{order_of};
 ghost use Rattle.relis.specs.Calls.{IsCall, outside};
-ghost use Rattle.relis.specs.Orders.{plain_order_of};
 ghost use Rattle.relis.specs.Exits.{words_after_name, EndsCall, number_without_words};
 
 use crate::status::Status;
@@ -52,7 +52,7 @@ fn status_of<R: Threads + Wait + Sync, F: Files, K: Sink, G: Gate>(
     out: &mut K,
     gate: &G,
 ) -> Status
-    ensures { IsCall (plain_order_of (words_after_name (into_iter_items given)))
+    ensures { IsCall (order_of (words_after_name (into_iter_items given)))
         (outside (F.held files.old) (F.faults files.old) (K.written out.old) (K.faults out.old))
         (outside (F.held files.new) (F.faults files.new) (K.written out.new) (K.faults out.new))
         result }
@@ -73,7 +73,7 @@ pub fn exit_of<R: Threads + Wait + Sync, F: Files, K: Sink, G: Gate>(
     gate: &G,
 ) -> ExitCode
     // The number is that of the status of a call with the words after the program's own name.
-    ensures call { IfOk given (λ all. EndsCall (plain_order_of (words_after_name (into_iter_items all)))
+    ensures call { IfOk given (λ all. EndsCall (order_of (words_after_name (into_iter_items all)))
         (outside (F.held files.old) (F.faults files.old) (K.written out.old) (K.faults out.old))
         (outside (F.held files.new) (F.faults files.new) (K.written out.new) (K.faults out.new))
         (exit_status result)) }

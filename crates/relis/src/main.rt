@@ -16,6 +16,7 @@ pub mod laws;
 mod lines;
 mod made;
 mod reading;
+mod run;
 mod status;
 #[cfg(test)]
 mod tests;

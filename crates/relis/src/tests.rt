@@ -3,6 +3,7 @@ mod auditing;
 mod driving;
 mod failing;
 mod making;
+mod running;
 mod texts;
 
 use super::*;

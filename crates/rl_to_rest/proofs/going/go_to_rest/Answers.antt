@@ -1,0 +1,10 @@
+use Rattle.rl_to_rest.proofs.Rounds.{went_round}
+use Rattle.rl_to_rest.proofs.going.go_to_rest.Goals as goal
+
+pub loop-preserved : goal.loop-preserved
+loop-preserved g c = (
+  tt,
+  tt,
+  went_round c.args.nodes.now c.loop.nodes c.nodes_mut.result.now c.go_round.new.nodes c.loop.invariant.2 c.nodes_mut.ensures.value c.in_ok-go_round.ensures
+      (c.replaced_all.ensures c.loop.nodes c.go_round.new.nodes),
+)

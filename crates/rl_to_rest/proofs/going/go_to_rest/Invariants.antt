@@ -1,0 +1,6 @@
+use Rattle.rl_to_rest.specs.Going.{StillNodes}
+use Rattle.rl_to_rest.proofs.going.go_to_rest.Given as goal
+
+abbrev pub invariant-loop : goal.invariant-loop
+invariant-loop g l =
+    (goal.iterator-loop g).can_next l.iterator' × (goal.iterator-loop g).is_finite l.iterator' × StillNodes l.initial.nodes l.nodes
