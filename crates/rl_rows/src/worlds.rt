@@ -39,7 +39,7 @@ train = [
 "#;
 
 /// Worlds of the straight line in this order: at the start the train is on A, which it holds at W and at J1; it holds
-/// B at both ends too, has the lock of J1 and is across it; and it rests on B.
+/// B at both ends too, has the lock of J1 and is across it; and at the end it rests on B.
 const STRAIGHT_WORLDS: [&str; 3] = [
     "World { trains: [Standing { made: 0, on: SegId(0), across: None }], boxes: [\
 BoxState { points: Left, lock: None, hold0: Some(TrainId(0)), hold1: None, hold2: None, hold3: None }, \
@@ -140,8 +140,15 @@ fn compare(
     Ok(text)
 }
 
-/// Drives the core for so many rounds, and compares its world with that of its moves before each. Gives how many of
-/// the texts, in their order, were texts of its worlds.
+/// Asserts that the world at the end is the last of the texts, if there is one.
+fn assert_end(rt: &impl Abort, end: &str, texts: &[&str]) {
+    if let Some(text) = texts.last() {
+        assert_eq!(rt; end, *text);
+    }
+}
+
+/// Drives the core for so many rounds, and compares its world with that of its moves before each and at the end, where
+/// it has the last of the texts. Gives how many of the texts, in their order, were texts of its worlds.
 fn drive(
     rt: &impl Abort,
     alloc: Global,
@@ -162,6 +169,8 @@ fn drive(
         }
         round(rt, net, core, world);
     }
+    let end = compare(rt, alloc, net, core, world)?;
+    assert_end(rt, end.as_str(), texts);
     Ok(seen)
 }
 
