@@ -4,6 +4,12 @@
 #![tactic(auto)]
 
 #[cfg(test)]
+mod driven;
+#[cfg(test)]
+mod events;
+#[cfg(test)]
+mod moves;
+#[cfg(test)]
 mod networks;
 #[cfg(test)]
 mod worlds;
