@@ -192,6 +192,17 @@ fn drive_from_start(
     Ok(())
 }
 
+fn drive_network(
+    rt: &impl Abort,
+    alloc: Global,
+    net: &Network,
+    rounds: u32,
+    texts: &[&str],
+) -> Result<(), Fail> {
+    let line = compile(alloc, net)?;
+    drive_from_start(rt, alloc, net, &line, rounds, texts)
+}
+
 fn drive_text(
     rt: &impl Abort,
     alloc: Global,
@@ -200,8 +211,7 @@ fn drive_text(
     texts: &[&str],
 ) -> Result<(), Fail> {
     let net = network(alloc, text)?;
-    let line = compile(alloc, &net)?;
-    drive_from_start(rt, alloc, &net, &line, rounds, texts)
+    drive_network(rt, alloc, &net, rounds, texts)
 }
 
 #[test]
