@@ -1,5 +1,7 @@
 //! Network texts: which are accepted, and which are refused with which number and place.
 use super::*;
+use rl_syntax::{read_draft, write_draft};
+use rl_text::Out;
 
 /// One text for each refusal from 3 to 15, as a change of another. A second file, which isn't there, isn't read then.
 #[test]
@@ -123,6 +125,42 @@ fn accepts_texts(rt: HostRuntime) -> Result<(), Fail> {
         let (status, written) = answer(alloc, net, &["check", "NET"])?;
         assert_eq!(rt; status, Status::Done, "{net}");
         assert_eq!(rt; written.as_slice(), text.as_bytes(), "{net}");
+    }
+    Ok(())
+}
+
+/// The draft of the bytes, as a text.
+fn draft_of(alloc: Global, bytes: &[u8]) -> Result<String, Fail> {
+    let draft = read_draft(alloc, bytes)?;
+    Ok(format!(in alloc; "{draft:?}")?)
+}
+
+/// The text that is written of the draft of this one.
+fn written_again(alloc: Global, net: &str) -> Result<Out, Fail> {
+    let draft = read_draft(alloc, net.as_bytes())?;
+    Ok(write_draft(alloc, &draft).ok().ok_or("written")?)
+}
+
+#[test]
+fn writes_networks(rt: HostRuntime) -> Result<(), Fail> {
+    let alloc = rt.alloc();
+    for net in [
+        "format = 1\n",
+        TRACK,
+        STRAIGHT,
+        FORK,
+        CROSSING,
+        HEAD_ON,
+        TWO_WISHES,
+        RING,
+        TERMINUS,
+    ] {
+        let text = written_again(alloc, net)?;
+        let (before, after) = (
+            draft_of(alloc, net.as_bytes())?,
+            draft_of(alloc, text.bytes())?,
+        );
+        assert_eq!(rt; before.as_str(), after.as_str(), "{net}");
     }
     Ok(())
 }
