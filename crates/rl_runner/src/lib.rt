@@ -4,6 +4,7 @@
 //! same number of turns, by several threads. It knows no protocol, no word and no seat.
 #![tactic(auto)]
 
+mod abreast;
 #[cfg(test)]
 mod tests;
 pub mod turner;

@@ -94,14 +94,15 @@ fn with_turns(node: u32, left: u32) -> Toy
 
 #[test]
 fn gives_each_node_its_turns(rt: HostRuntime) {
-    // Five nodes have 4 of their 6 turns: at the second and the fourth, with 4 and 2 turns left, they change a word.
+    // Five nodes have 40 of their 42 turns: at every second one, with 40, 38 .. 2 turns left, they change a word. So the
+    // stamps of each add up to 420.
     for workers in [1, 2, 3, 5, 9] {
         let mut nodes = [
-            with_turns(0, 6),
-            with_turns(1, 6),
-            with_turns(2, 6),
-            with_turns(3, 6),
-            with_turns(4, 6),
+            with_turns(0, 42),
+            with_turns(1, 42),
+            with_turns(2, 42),
+            with_turns(3, 42),
+            with_turns(4, 42),
         ];
         let gate = Counting {
             passed: AtomicU64::new(0),
@@ -109,11 +110,11 @@ fn gives_each_node_its_turns(rt: HostRuntime) {
             told: AtomicU64::new(0),
             stamps: AtomicU64::new(0),
         };
-        rounds(&rt, &mut nodes, &gate, 4, workers);
-        assert!(rt; nodes.iter().all(|toy| toy.left == 2 && toy.made == 4));
-        assert_eq!(rt; gate.passed.load(Ordering::SeqCst), 20);
-        assert_eq!(rt; gate.nodes.load(Ordering::SeqCst), 40);
-        assert_eq!(rt; gate.told.load(Ordering::SeqCst), 10);
-        assert_eq!(rt; gate.stamps.load(Ordering::SeqCst), 30);
+        rounds(&rt, &mut nodes, &gate, 40, workers);
+        assert!(rt; nodes.iter().all(|toy| toy.left == 2 && toy.made == 40));
+        assert_eq!(rt; gate.passed.load(Ordering::SeqCst), 200);
+        assert_eq!(rt; gate.nodes.load(Ordering::SeqCst), 400);
+        assert_eq!(rt; gate.told.load(Ordering::SeqCst), 100);
+        assert_eq!(rt; gate.stamps.load(Ordering::SeqCst), 2100);
     }
 }

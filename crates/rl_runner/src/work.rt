@@ -1,6 +1,7 @@
 ghost use Rattle.std.specs.Prelude.{◌≡◌, ℕ, ◌-◌, ◌<◌, ◌≤◌, All, length};
 ghost use Rattle.rl_runner.specs.Turns.{HasTurned, EachTurned};
 
+use crate::abreast::Abreast;
 use crate::turner::Turner;
 use rl_outside::Gate;
 use rl_record::Turn;
@@ -35,14 +36,16 @@ fn one_round<T: Turner, G: Gate>(group: &mut [T], gate: &G)
     }
 }
 
-/// So many turns of each node of the group, round after round.
-fn work<T: Turner, G: Gate>(group: &mut [T], gate: &G, round: u32)
+/// So many turns of each node of the group, in as many passes, abreast of the other workers.
+fn work<T: Turner, G: Gate>(group: &mut [T], gate: &G, round: u32, abreast: &Abreast)
     requires { All (T.ready round) group.old }
     ensures { EachTurned T.number T.turns T.home round group.old group.new }
 {
     at_home::<T>();
-    for _turn in 0..round {
+    let mut waits = true;
+    for pass in 0..round {
         one_round(group, gate);
+        waits = abreast.keep(pass + 1, waits);
     }
 }
 
@@ -62,9 +65,10 @@ pub fn rounds<R: Threads + Sync, T: Turner, G: Gate>(
 {
     let groups = min(workers as usize, nodes.len());
     let size = nodes.len().div_ceil(groups);
+    let abreast = Abreast::new(nodes.len().div_ceil(size));
     let worker = |_start: usize, group: &mut [T]|
         requires { All (T.ready round) group.now }
         ensures { EachTurned T.number T.turns T.home round group.entry.now group.exit.now }
-    { work(group, gate, round) };
+    { work(group, gate, round, &abreast) };
     for_each_chunk_mut(rt, nodes, size, &worker);
 }
