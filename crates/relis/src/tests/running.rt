@@ -151,6 +151,58 @@ fn audits_a_run(rt: HostRuntime) -> Result<(), Fail> {
     Ok(())
 }
 
+/// The report of a run of the terminus by two workers, with so many turns a round.
+fn terminus_run<R: Threads + Wait + Sync>(
+    rt: &R,
+    alloc: Global,
+    round: u32,
+) -> Result<Vec<u8>, Fail> {
+    let files = [("NET", TERMINUS.as_bytes())];
+    let turns = format!(in alloc; "{round}")?;
+    let words = ["run", "NET", "--workers", "2", "--round", turns.as_str()];
+    let (status, report) = answer_of_all(rt, alloc, files.as_slice(), words.as_slice(), &OpenGate)?;
+    if status != Status::Done {
+        return Err(Fail::from("the run is not done"));
+    }
+    Ok(report)
+}
+
+/// Whether the audit calls the report of the terminus safe.
+fn is_safe(alloc: Global, report: &[u8]) -> Result<bool, Fail> {
+    let files = [("NET", TERMINUS.as_bytes()), ("REPORT", report)];
+    let (status, _) = answer_with(alloc, files.as_slice(), &["audit", "NET", "REPORT"])?;
+    Ok(status == Status::Done)
+}
+
+fn has_four_trains(report: &[u8]) -> Result<bool, Fail> {
+    let text = std::str::from_utf8(report)?;
+    Ok(count_lines(text, "train ") == 4)
+}
+
+/// How many runs of the terminus, with 1, 2 and so on up to so many turns a round, are safe and tell of four trains.
+fn count_safe_runs<R: Threads + Wait + Sync>(
+    rt: &R,
+    alloc: Global,
+    runs: u32,
+) -> Result<u32, Fail> {
+    let mut safe: u32 = 0;
+    for run in 0..runs {
+        let report = terminus_run(rt, alloc, run + 1)?;
+        if is_safe(alloc, report.as_slice())? && has_four_trains(report.as_slice())? {
+            safe = safe.saturating_add(1);
+        }
+    }
+    Ok(safe)
+}
+
+/// Two hundred runs, each cut into rounds of another length, so that two workers meet each other in other places.
+#[test]
+fn audits_many_runs(rt: HostRuntime) -> Result<(), Fail> {
+    let safe = count_safe_runs(&rt, rt.alloc(), 200)?;
+    assert_eq!(rt; safe, 200);
+    Ok(())
+}
+
 /// The place of an event, which one worker alone writes.
 #[derive(Drop)]
 struct Slot {
