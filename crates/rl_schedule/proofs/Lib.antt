@@ -7,3 +7,4 @@ mod Read
 mod OrderWords
 mod Items
 mod Meanings
+mod PlainTurns

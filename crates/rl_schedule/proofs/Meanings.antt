@@ -1,7 +1,6 @@
 -- What the search answers to a schedule text is what is so of the text, and nothing else is.
-use Rattle.std.proofs.Common.{◌≡◌, ℕ, zero, suc, ◌+◌, ◌<◌, ◌≤◌, Bool, true, false, nat_lt, List, [], ◌∷◌, ◌++◌, length, drop, slice_get, Option, Some, None, Result, Ok, Err, refl, sym, ap, ◌∙◌, subst, inl, inr, arith}
-use Rattle.std.specs.Prelude.{sum_by}
-use Rattle.std.proofs.lemmas.Bool.{lt-ltb, le-ltb, ltb-true, ltb-false, cases_lt}
+use Rattle.std.proofs.Common.{◌≡◌, ℕ, zero, suc, ◌+◌, ◌<◌, ◌≤◌, true, false, nat_lt, List, [], ◌∷◌, ◌++◌, length, drop, slice_get, Option, Some, None, Result, Ok, Err, refl, sym, ap, ◌∙◌, subst, inl, inr, arith}
+use Rattle.std.proofs.lemmas.Bool.{lt-ltb, le-ltb, cases_lt}
 use Rattle.std.proofs.lemmas.List.{append_assoc, append-nil, length-append}
 use Rattle.std.proofs.lemmas.List.Sums.{sum_by-append, sum_by-cons, sum_by_push}
 use Rattle.std.proofs.Math.ListN.{drop_of_length-le}
@@ -14,13 +13,13 @@ use Rattle.rl_schedule.specs.declared.refusal.ScheduleRefusal.{ScheduleRefusal}
 use Rattle.rl_schedule.specs.declared.refusal.ScheduleRefusal.TheVariants as refusals
 use Rattle.rl_schedule.specs.declared.schedules.Item.{Item}
 use Rattle.rl_schedule.specs.Turns.{turn_count, turns_together}
-use Rattle.rl_schedule.specs.Orders.{Order, Gives, order_of}
-use Rattle.rl_schedule.specs.Readings.{nodes_of, item_of, if_few, if_there, if_given, item_in, items_after, schedule_of}
-use Rattle.rl_schedule.specs.Meaning.{IsItemOf, Says, BeginsWith, IsLineAfter, IsRefusedBy, IsFirstRefusal, line_of, Means}
+use Rattle.rl_schedule.specs.Orders.{Order, order_of}
+use Rattle.rl_schedule.specs.Readings.{nodes_of, item_of, item_in, items_after, schedule_of}
+use Rattle.rl_schedule.specs.Meaning.{Says, BeginsWith, IsLineAfter, IsRefusedBy, IsFirstRefusal, line_of, Means}
 use Rattle.rl_schedule.specs.Refusals.{UnlessMemory}
 use Rattle.rl_schedule.proofs.OrderWords.{order_given, given_order}
 use Rattle.rl_schedule.proofs.Items.{item_said, said_item}
-use Rattle.rl_schedule.proofs.Read.{item_read}
+use Rattle.rl_schedule.proofs.Read.{item_read, if_over, if_within}
 
 -- the answer of a line, by what is so of it
 line_no_order : (net : NetworkPlan) (items : List Item) (line : Line) → order_of line ≡ None → item_in net items line ≡ Err (refusals.Line (length items + 1))
@@ -32,17 +31,11 @@ line_no_item net items line order o i = rw (o, i) refl
 
 line_over : (net : NetworkPlan) (items : List Item) (line : Line) (order : Order) (item : Item) → order_of line ≡ Some order → item_of net order ≡ Some item
     → MAX_TURNS < turns_together (nodes_of net) items + turn_count (nodes_of net) item → item_in net items line ≡ Err (refusals.TooMany (length items + 1))
-line_over net items line order item o i over =
-    let yes : nat_lt MAX_TURNS (turns_together (nodes_of net) items + turn_count (nodes_of net) item) ≡ true =
-    lt-ltb MAX_TURNS (turns_together (nodes_of net) items + turn_count (nodes_of net) item) over in
-    rw (o, i, yes) refl
+line_over net items line order item o i over = rw (o, i) (if_over net items (length items + 1) item refl over)
 
 line_item : (net : NetworkPlan) (items : List Item) (line : Line) (order : Order) (item : Item) → order_of line ≡ Some order → item_of net order ≡ Some item
     → turns_together (nodes_of net) items + turn_count (nodes_of net) item ≤ MAX_TURNS → item_in net items line ≡ Ok item
-line_item net items line order item o i few =
-    let no : nat_lt MAX_TURNS (turns_together (nodes_of net) items + turn_count (nodes_of net) item) ≡ false =
-    le-ltb MAX_TURNS (turns_together (nodes_of net) items + turn_count (nodes_of net) item) few in
-    rw (o, i, no) refl
+line_item net items line order item o i few = rw (o, i) (if_within net items item few)
 
 refusal_read : (net : NetworkPlan) (items : List Item) (line : Line) (lines : List Line) (refusal : ScheduleRefusal) → item_in net items line ≡ Err refusal
     → items_after net items (line ∷ lines) ≡ Err refusal

@@ -63,7 +63,7 @@ unnamed_position name word xs none =
     ]
 
 -- the answer of a look-up is that place
-pub looked_up : {X : Type 0} (name : X → List ℕ) (word : List ℕ) (xs : List X) (o : Option ℕ) → Differ name xs
+looked_up : {X : Type 0} (name : X → List ℕ) (word : List ℕ) (xs : List X) (o : Option ℕ) → Differ name xs
     → ((i : ℕ) → o ≡ Some i → (i < length xs) × (option_map_or name (slice_get xs i) [] ≡ word))
     → (o ≡ None → (i : ℕ) → i < length xs → option_map_or name (slice_get xs i) [] ≢ word) → o ≡ position (is_named name word) xs
 looked_up name word xs (Some i) differ some none =
@@ -76,14 +76,20 @@ looked_up name word xs None differ some none =
     sym (unnamed_position name word xs (λ i x at is. none refl i (slice_get_within xs i x at) (ap (λ o. option_map_or name o []) at ∙ is)))
 
 -- what a look-up promises, of the number that it gives
-pub some_found : {X Id : Type 0} (number : Id → ℕ) (name : X → List ℕ) (word : List ℕ) (xs : List X) (o : Option Id)
+some_found : {X Id : Type 0} (number : Id → ℕ) (name : X → List ℕ) (word : List ℕ) (xs : List X) (o : Option Id)
     → IfSome o (λ id. (number id < length xs) × (option_map_or name (slice_get xs (number id)) [] ≡ word)) → (i : ℕ) → option_map number o ≡ Some i
     → (i < length xs) × (option_map_or name (slice_get xs i) [] ≡ word)
 some_found number name word xs (Some id) found i is = let same : number id ≡ i = cc in rw (← same) found
 some_found number name word xs None found i is = absurd (cc)
 
-pub none_found : {X Id : Type 0} (number : Id → ℕ) (name : X → List ℕ) (word : List ℕ) (xs : List X) (o : Option Id)
+none_found : {X Id : Type 0} (number : Id → ℕ) (name : X → List ℕ) (word : List ℕ) (xs : List X) (o : Option Id)
     → IfNone o ((i : ℕ) → i < length xs → option_map_or name (slice_get xs i) [] ≢ word) → option_map number o ≡ None → (i : ℕ) → i < length xs
     → option_map_or name (slice_get xs i) [] ≢ word
 none_found number name word xs None nowhere is = nowhere
 none_found number name word xs (Some id) nowhere is = absurd (cc)
+
+pub found_at : {X Id : Type 0} (number : Id → ℕ) (name : X → List ℕ) (word : List ℕ) (xs : List X) (o : Option Id) → Differ name xs
+    → IfSome o (λ id. (number id < length xs) × (option_map_or name (slice_get xs (number id)) [] ≡ word))
+    → IfNone o ((i : ℕ) → i < length xs → option_map_or name (slice_get xs i) [] ≢ word) → option_map number o ≡ position (is_named name word) xs
+found_at number name word xs o differ some none =
+    looked_up name word xs (option_map number o) differ (some_found number name word xs o some) (none_found number name word xs o none)

@@ -7,7 +7,9 @@
 
 pub mod drives;
 pub mod laws;
+mod nodes;
 mod orders;
+mod plain;
 pub mod reading;
 pub mod refusal;
 pub mod reports;

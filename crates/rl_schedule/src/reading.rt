@@ -1,66 +1,31 @@
-ghost use Rattle.std.specs.Prelude.{◌≡◌, [], ◌+◌, ◌<◌, ◌≤◌, List, length, option_map, IfOk, IfSome, OnOk, Result, Ok, Err};
+ghost use Rattle.std.specs.Prelude.{◌≡◌, [], ◌+◌, ◌<◌, ◌≤◌, List, length, IfOk, IfSome, OnOk, Result, Ok, Err};
 ghost use Rattle.rl_base.specs.declared.limits.TheConstants.{MAX_TURNS, MAX_SCHEDULE_BYTES};
 ghost use Rattle.rl_text.specs.Lines.{lines_of};
-ghost use Rattle.rl_schedule.specs.Given.{line_of, ordered};
+ghost use Rattle.rl_schedule.specs.Given.{item_at, line_of, ordered};
 ghost use Rattle.rl_schedule.specs.Meaning.{Means};
 ghost use Rattle.rl_schedule.specs.Readings.{item_in, item_of, items_after, nodes_of, schedule_of};
-ghost use Rattle.rl_schedule.specs.Readings.{box_named, number_in, train_named};
 ghost use Rattle.rl_schedule.specs.Refusals.{UnlessMemory};
 ghost use Rattle.rl_schedule.specs.Turns.{HasNode, IsScheduleFor, turn_count, turns_together};
 ghost use Rattle.rl_schedule.specs.declared.schedules.Item.{Item};
 
+use crate::nodes::{Near, node_named};
 use crate::orders::{Given, order_of};
+use crate::plain::plain_turn;
 use crate::refusal::ScheduleRefusal;
-use crate::roles::Role;
 use crate::schedules::{Item, ItemList, Schedule};
 use rl_base::limits::{MAX_SCHEDULE_BYTES, MAX_TURNS};
-use rl_base::{BoxId, NodeKind, NodeNo, TrainId};
 use rl_net::Network;
 use rl_text::{TextLine, Tokens};
 use std::alloc::Global;
 
-/// The train of that name.
-fn train_named(net: &Network, name: &[u8]) -> Option<TrainId>
-    ensures number { option_map (λ t. t.0) result ≡ train_named net.now name.now }
-    ensures within { IfSome result (λ t. t.0 < length net.now.trains) }
-{
-    // What acceptance gave, for the proof: the names differ.
-    let _layout = net.layout();
-    net.find_train(name)
-}
-
-/// The box of that name.
-fn box_named(net: &Network, name: &[u8]) -> Option<BoxId>
-    ensures number { option_map (λ b. b.0) result ≡ box_named net.now name.now }
-    ensures within { IfSome result (λ b. b.0 < length net.now.boxes) }
-{
-    // What acceptance gave, for the proof: the names differ.
-    let _layout = net.layout();
-    net.find_box(name)
-}
-
-/// The node that is named so.
-fn node_named(net: &Network, role: Role, name: &[u8]) -> Option<NodeNo>
-    ensures number { option_map (λ n. n.0) result ≡ number_in net.now role name.now }
-    ensures within { IfSome result (λ n. n.0 < nodes_of net.now) }
-{
-    let kind = match role {
-        Role::Train => NodeKind::Train(train_named(net, name)?),
-        Role::Track => NodeKind::Track(train_named(net, name)?),
-        Role::SwitchBox => NodeKind::Box(box_named(net, name)?),
-        Role::Machine => NodeKind::Machine(box_named(net, name)?),
-    };
-    Some(net.layout().node(kind))
-}
-
 /// The item that is ordered, if the node is there.
-fn item_of(net: &Network, given: &Given<'_>) -> Option<Item>
+fn item_of(net: &Network, near: &mut Near, given: &Given<'_>) -> Option<Item>
     ensures item { result ≡ item_of net.now (ordered given.now) }
     ensures within { IfSome result (HasNode (nodes_of net.now)) }
 {
     match given {
         Given::Turns { node, count } => {
-            let number = node_named(net, node.role, node.name)?;
+            let number = node_named(net, near, node.role, node.name)?;
             Some(Item::Turn {
                 node: number,
                 count: *count,
@@ -80,8 +45,43 @@ fn count_turns(net: &Network, item: Item) -> u64
     }
 }
 
+/// The item of a line in one of its forms, or the line's refusal.
+fn item_of_order(
+    net: &Network,
+    near: &mut Near,
+    line: &TextLine<'_>,
+) -> Result<Item, ScheduleRefusal>
+    ensures item { result ≡ item_at net.now line.now.number (line_of line.now) }
+    ensures within { IfOk result (HasNode (nodes_of net.now)) }
+{
+    let given = order_of(line).ok_or(ScheduleRefusal::Line(line.number))?;
+    item_of(net, near, &given).ok_or(ScheduleRefusal::NoNode(line.number))
+}
+
+/// The item of a line, or the line's refusal.
+#[inline(always)]
+fn item_of_line(
+    net: &Network,
+    near: &mut Near,
+    line: &TextLine<'_>,
+) -> Result<Item, ScheduleRefusal>
+    ensures item { result ≡ item_at net.now line.now.number (line_of line.now) }
+    ensures within { IfOk result (HasNode (nodes_of net.now)) }
+{
+    match plain_turn(net, near, line) {
+        Some(item) => Ok(item),
+        None => item_of_order(net, near, line),
+    }
+}
+
 /// The item of a line that stands after so many turns, or the line's refusal.
-fn item_in(net: &Network, turns: u64, line: &TextLine<'_>) -> Result<Item, ScheduleRefusal>
+#[inline(always)]
+fn item_in(
+    net: &Network,
+    near: &mut Near,
+    turns: u64,
+    line: &TextLine<'_>,
+) -> Result<Item, ScheduleRefusal>
     requires { turns ≤ MAX_TURNS }
     ensures item { (items : List Item) → turns ≡ turns_together (nodes_of net.now) items
         → line.now.number ≡ length items + 1
@@ -89,8 +89,7 @@ fn item_in(net: &Network, turns: u64, line: &TextLine<'_>) -> Result<Item, Sched
     ensures within { IfOk result (HasNode (nodes_of net.now)) }
     ensures few { IfOk result (λ item. turns + turn_count (nodes_of net.now) item ≤ MAX_TURNS) }
 {
-    let given = order_of(line).ok_or(ScheduleRefusal::Line(line.number))?;
-    let item = item_of(net, &given).ok_or(ScheduleRefusal::NoNode(line.number))?;
+    let item = item_of_line(net, near, line)?;
     if count_turns(net, item) > MAX_TURNS - turns {
         return Err(ScheduleRefusal::TooMany(line.number));
     }
@@ -105,9 +104,10 @@ fn read_lines(alloc: Global, net: &Network, text: &[u8]) -> Result<ItemList, Sch
 {
     let mut items = ItemList::new(alloc);
     let mut turns = 0;
+    let mut near = Near::START;
     let mut lines = Tokens::new(text);
     while let Some(line) = lines.line() {
-        let item = item_in(net, turns, &line)?;
+        let item = item_in(net, &mut near, turns, &line)?;
         turns += count_turns(net, item);
         items.push(item)?;
     }

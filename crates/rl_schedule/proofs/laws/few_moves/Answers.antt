@@ -1,6 +1,4 @@
-use Rattle.std.proofs.Common.{◌≡◌, List, Result, Ok, subst, arith}
-use Rattle.rl_schedule.specs.declared.refusal.ScheduleRefusal.{ScheduleRefusal}
-use Rattle.rl_schedule.specs.declared.schedules.Item.{Item}
+use Rattle.std.proofs.Common.{Ok, subst, arith}
 use Rattle.rl_schedule.specs.Meaning.{Means}
 use Rattle.rl_schedule.specs.Readings.{nodes_of}
 use Rattle.rl_schedule.proofs.Meanings.{means}

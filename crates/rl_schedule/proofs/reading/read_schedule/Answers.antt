@@ -1,9 +1,5 @@
-use Rattle.std.proofs.Common.{◌≡◌, ◌≤◌, List, ℕ, length, Result, Ok, Err, sym, ap, ◌∙◌, arith}
+use Rattle.std.proofs.Common.{Ok, Err}
 use Rattle.std.proofs.lemmas.Result.{err_from_is_err_and}
-use Rattle.rl_base.specs.declared.limits.TheConstants.{MAX_SCHEDULE_BYTES}
-use Rattle.rl_schedule.specs.declared.refusal.ScheduleRefusal.{ScheduleRefusal}
-use Rattle.rl_schedule.specs.declared.schedules.Item.{Item}
-use Rattle.rl_schedule.specs.Meaning.{Means}
 use Rattle.rl_schedule.proofs.Meanings.{means_unless, only_unless, read_unless}
 use Rattle.rl_schedule.proofs.reading.read_schedule.Goals as goal
 
