@@ -45,19 +45,6 @@ fn count_turns(net: &Network, item: Item) -> u64
     }
 }
 
-/// The item of a line in one of its forms, or the line's refusal.
-fn item_of_order(
-    net: &Network,
-    near: &mut Near,
-    line: &TextLine<'_>,
-) -> Result<Item, ScheduleRefusal>
-    ensures item { result ≡ item_at net.now line.now.number (line_of line.now) }
-    ensures within { IfOk result (HasNode (nodes_of net.now)) }
-{
-    let given = order_of(line).ok_or(ScheduleRefusal::Line(line.number))?;
-    item_of(net, near, &given).ok_or(ScheduleRefusal::NoNode(line.number))
-}
-
 /// The item of a line, or the line's refusal.
 #[inline(always)]
 fn item_of_line(
@@ -68,10 +55,11 @@ fn item_of_line(
     ensures item { result ≡ item_at net.now line.now.number (line_of line.now) }
     ensures within { IfOk result (HasNode (nodes_of net.now)) }
 {
-    match plain_turn(net, near, line) {
-        Some(item) => Ok(item),
-        None => item_of_order(net, near, line),
+    if let Some(item) = plain_turn(net, near, line) {
+        return Ok(item);
     }
+    let given = order_of(line).ok_or(ScheduleRefusal::Line(line.number))?;
+    item_of(net, near, &given).ok_or(ScheduleRefusal::NoNode(line.number))
 }
 
 /// The item of a line that stands after so many turns, or the line's refusal.
