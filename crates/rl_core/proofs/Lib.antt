@@ -3,6 +3,7 @@ pub mod Started
 pub mod Turned
 pub mod Reached
 pub mod Looking
+pub mod Watching
 pub mod Counting
 pub mod Fates
 pub mod CoreWorlds

@@ -1,5 +1,5 @@
 -- What the look at a target comes to, from what the mind's own calls answer.
-use Rattle.std.proofs.Common.{◌≡◌, ap, Bool, ℕ, ◌<◌, List, slice_index_or, Option, Some, None, option_map, option_and_then, slice_get, refl, sym, ◌∙◌, subst, arith}
+use Rattle.std.proofs.Common.{◌≡◌, ap, ℕ, ◌<◌, List, slice_index_or, Option, Some, None, option_map, option_and_then, slice_get, refl, sym, ◌∙◌, subst, arith}
 use Rattle.std.proofs.lemmas.Bool.Decides.{nat_tests}
 use Rattle.std.proofs.lemmas.Option.{get_or_from_slice_get}
 use Rattle.rl_base.specs.declared.ids.BoxId.{BoxId}
@@ -30,12 +30,12 @@ use Rattle.rl_runs.specs.declared.mind.Mind.{Mind}
 use Rattle.rl_runs.specs.declared.mind.Mind.TheVariants.{Train, Track, Box, Machine}
 use Rattle.rl_runs.specs.Numbers.{node_at}
 use Rattle.rl_runs.specs.Sound.{IsSound, IsMindOf}
-use Rattle.rl_runs.specs.Step.{node_step, as_mind, target_of, is_ready}
+use Rattle.rl_runs.specs.Step.{node_step, as_mind, target_of}
 use Rattle.rl_runs.specs.State.{CoreState}
 use Rattle.rl_runs.proofs.Numbering.{node_at-some}
 use Rattle.rl_runs.proofs.Acts.{train_looks, train_acts, track_looks, track_acts, box_looks, box_acts, machine_looks, machine_acts}
 use Rattle.rl_core.specs.Cores.{Core, state_of}
-use Rattle.rl_core.specs.Looks.{Sees, IsGlance}
+use Rattle.rl_core.specs.Looks.{Sees}
 
 -- a node that looks at a word, and what its step there comes to
 pub record Looked (tables : Tables) (c : CoreState) (n scan w was : ℕ) (step : Option (ℕ × Mind)) : Type 0 where
@@ -187,12 +187,6 @@ machine_there core n m sound within there = let found = kind_there core n (Machi
 -- the mind of the state is the one in the table
 pub mind_at : (core : Core) (n : ℕ) (mind : Mind) → slice_get core.minds n ≡ Some mind → (state_of core).minds n ≡ mind
 mind_at core n mind there = get_or_from_slice_get core.minds n mind (Machine record {}) there
-
--- a node that sees a word on which it has no step, at a glance
-pub glanced : (tables : Tables) (c : CoreState) (n scan was : ℕ) (w : WordNo) (ready : Bool) → Looked tables c n scan w.0 was None
-    → ready ≡ is_ready (c.minds n)
-    → IsGlance tables c n scan (record { word = w; was = was; ready = ready })
-glanced tables c n scan was w ready looks ready_is = record { idles = (looks.sees, looks.step_is); ready = ready_is }
 
 -- the box at a place of a line has its number
 pub box_numbered : (tables : Tables) (b : BoxId) (x : BoxTable) → IsLine tables → slice_get tables.boxes b.0 ≡ Some x → x.number ≡ b

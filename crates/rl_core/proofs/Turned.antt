@@ -13,11 +13,13 @@ use Rattle.rl_runs.specs.Step.{is_ready}
 use Rattle.rl_runs.specs.State.{put}
 use Rattle.rl_runs.specs.Turn.{Drive, turn_of, answer_of, events_of_target, answer_of_target, target_in, scanned, next_place}
 use Rattle.rl_runs.proofs.Options.{get_set_same, get_set_other}
+use Rattle.rl_core.specs.declared.look.Glance.{Glance}
+use Rattle.rl_core.specs.declared.look.Glance.TheVariants as glances
 use Rattle.rl_core.specs.declared.look.Look.{Look}
 use Rattle.rl_core.specs.declared.look.Look.TheVariants.{Rests, Idles, Steps}
 use Rattle.rl_core.specs.Cores.{Core, state_of, LeadsTo, HasSizes}
 use Rattle.rl_core.specs.Made.{event_in, made, advanced}
-use Rattle.rl_core.specs.Looks.{IsLook, after_look, answer_to, after_turn}
+use Rattle.rl_core.specs.Looks.{IsLook, IsGlance, look_of, ready_of, after_look, answer_to, after_turn}
 use Rattle.rl_core.proofs.Onward.{leads_on}
 
 -- the events after the look
@@ -176,3 +178,25 @@ turned_by core mid new n look ready answer sizes there is mid_is ready_is new_is
       tries = ap (λ (x : Core). x.tries) after ∙ tries_kept core n look;
       events = rw after (events_kept core n look);
     }
+
+-- a turn of a node without a step, as a glance tells
+same_core : (core : Core) (n : ℕ) (glance : Glance) → core ≡ after_look core n (look_of glance)
+same_core core n glances.Rests = refl
+same_core core n (glances.Idles w was ready) = refl
+
+same_events : (core : Core) (events : List Event) (n : ℕ) (glance : Glance) → looked core events n (look_of glance) ≡ events
+same_events core events n glances.Rests = refl
+same_events core events n (glances.Idles w was ready) = refl
+
+pub passed_by : (core new : Core) (n : ℕ) (glance : Glance) (answer : Turn) → HasSizes core → n < node_count (layout_of core.line)
+    → IsGlance core.line (state_of core) n (slice_index_or core.scans n 0) glance → new ≡ (if ready_of glance then advanced core n else core)
+    → answer ≡ answer_to core n (look_of glance) → IsTurned core new n answer
+passed_by core new n glance answer sizes there is new_is says =
+    turned_by core core new n (look_of glance) (ready_of glance) answer sizes there is.look (same_core core n glance) is.ready new_is says
+
+pub no_event : (core : Core) (n : ℕ) (glance : Glance) → n < node_count (layout_of core.line) → IsGlance core.line (state_of core) n (slice_index_or core.scans n 0) glance
+    → (d : Drive) → LeadsTo d core → (turn_of core.line core.tries d n).events ≡ d.events
+no_event core n glance there is d leads =
+    let place : d.scans n ≡ slice_index_or core.scans n 0 = sym (get_or_from_slice_get core.scans n (d.scans n) 0 (leads.scans n there)) in
+    ap (λ (x : Drive). x.events) (turn_looked core d n (slice_index_or core.scans n 0) (look_of glance) leads place is.look)
+    ∙ same_events core d.events n glance

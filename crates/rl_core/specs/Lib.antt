@@ -2,6 +2,7 @@ pub mod Cores
 pub mod Made
 pub mod Starts
 pub mod Looks
+pub mod Watches
 pub mod Reports
 pub mod Worlds
 pub mod Redoing

@@ -1,5 +1,5 @@
 -- What a node sees where it looks at its target.
-use Rattle.std.specs.Prelude.{◌≡◌, ℕ, slice_get, Some, None, if◌then◌else◌}
+use Rattle.std.specs.Prelude.{◌≡◌, ℕ, Bool, false, slice_get, Some, None, if◌then◌else◌}
 use Rattle.rl_base.specs.declared.layout.NodeKind.TheVariants as nodes
 use Rattle.rl_words.specs.Stamps.{payload_in}
 use Rattle.rl_tables.specs.declared.table.Tables.{Tables}
@@ -15,6 +15,7 @@ use Rattle.rl_core.specs.Made.{event_in, made, advanced}
 use Rattle.rl_core.specs.declared.look.Who.{Who}
 use Rattle.rl_core.specs.declared.look.Who.TheVariants as whos
 use Rattle.rl_core.specs.declared.look.Glance.{Glance}
+use Rattle.rl_core.specs.declared.look.Glance.TheVariants as glances
 use Rattle.rl_core.specs.declared.look.Look.{Look}
 use Rattle.rl_core.specs.declared.look.Look.TheVariants.{Rests, Idles, Steps}
 
@@ -46,10 +47,19 @@ IsLook tables c n scan (Idles w was) =
 IsLook tables c n scan (Steps w was payload mind) =
     Sees tables c n scan w.0 was × (node_step tables n (c.minds n) w.0 (payload_in was) ≡ Some (payload, mind))
 
--- it has no step on what it sees, and is a ready box or isn't
+-- a glance as a look, and whether it is that of a ready box
+abbrev pub look_of : Glance → Look
+look_of glances.Rests = Rests
+look_of (glances.Idles w was ready) = Idles w was
+
+abbrev pub ready_of : Glance → Bool
+ready_of glances.Rests = false
+ready_of (glances.Idles w was ready) = ready
+
+-- it rests or has no step on what it sees, and is a ready box or isn't
 pub record IsGlance (tables : Tables) (c : CoreState) (n scan : ℕ) (glance : Glance) : Type 0 where
-  pub idles : IsLook tables c n scan (Idles glance.word glance.was)
-  pub ready : glance.ready ≡ is_ready (c.minds n)
+  pub look : IsLook tables c n scan (look_of glance)
+  pub ready : ready_of glance ≡ is_ready (c.minds n)
 
 -- the core after a look, and what the turn then answers
 abbrev pub after_look : Core → ℕ → Look → Core

@@ -9,8 +9,10 @@ ghost use Rattle.rl_tables.specs.Kept.{IsLine};
 ghost use Rattle.rl_runs.specs.Sound.{IsSound};
 ghost use Rattle.rl_core.specs.Cores.{state_of, LeadsTo, HasSizes, IsReached};
 ghost use Rattle.rl_core.specs.Made.{event_in, put_in, made, advanced};
+ghost use Rattle.rl_core.specs.Watches.{IsWatch};
 
-use crate::starts::{start_minds, start_words, zeros};
+use crate::starts::{no_watches, start_minds, start_words, zeros};
+use crate::watches::Watch;
 use rl_base::{NoMemory, NodeNo, WordNo};
 use rl_record::Event;
 use rl_runs::{Mind, sound_runs};
@@ -30,11 +32,13 @@ pub struct Core<'a> {
     minds: Vec<Mind>,
     clocks: Vec<u32>,
     scans: Vec<u32>,
+    watches: Vec<Watch>,
     events: u64,
 }
 
 impl<'a> Model for Core<'a> {
     ghost use Rattle.rl_core.specs.Cores.{Core, IsReached};
+    ghost use Rattle.rl_core.specs.Watches.{AreWatches};
 
     ghost Value = { Core };
 
@@ -56,7 +60,7 @@ impl<'a> Model for Core<'a> {
       clocks = c.clocks.items;
       scans = c.scans.items;
       events = c.events;
-    }) };
+    }) × AreWatches c.line.now c.minds.items c.watches.items };
 }
 
 impl<'a> Core<'a> {
@@ -73,6 +77,7 @@ impl<'a> Core<'a> {
         let minds = start_minds(alloc, line, tries)?;
         let clocks = zeros(alloc, line)?;
         let scans = zeros(alloc, line)?;
+        let watches = no_watches(alloc, line)?;
         Ok(Core {
             line,
             tries,
@@ -80,6 +85,7 @@ impl<'a> Core<'a> {
             minds,
             clocks,
             scans,
+            watches,
             events: 0,
         })
     }
@@ -144,6 +150,24 @@ impl<'a> Core<'a> {
         self.scans[n.0 as usize]
     }
 
+    /// What is kept of the node while its mind stays.
+    #[inline(always)]
+    pub(crate) fn watch(&self, n: NodeNo) -> Watch
+        requires { n.0 < node_count (layout_of self.now.line) }
+        ensures { IsWatch self.now.line n.0 ((state_of self.now).minds n.0) result }
+    {
+        self.watches[n.0 as usize]
+    }
+
+    /// Keeps a watch of the node, which is right of its mind.
+    pub(crate) fn keep(&mut self, n: NodeNo, watch: Watch)
+        requires there { n.0 < node_count (layout_of self.old.line) }
+        requires watch { IsWatch self.old.line n.0 ((state_of self.old).minds n.0) watch }
+        ensures { self.new ≡ self.old }
+    {
+        self.watches[n.0 as usize] = watch;
+    }
+
     /// What is so of the core's state, whatever run led to it.
     pub(crate) fn sound(&self)
         requires { self.now.events < 2 ^ 32 }
@@ -165,7 +189,7 @@ impl<'a> Core<'a> {
         max(self.clocks[node.0 as usize], stamp_of(was)) + 1
     }
 
-    /// Writes a word, and the mind and the clock of a node.
+    /// Writes a word, and the mind and the clock of a node, of which nothing is known then.
     fn put(&mut self, node: NodeNo, w: WordNo, now: u64, stamp: u32, mind: Mind)
         requires sizes { HasSizes self.old }
         requires node { node.0 < node_count (layout_of self.old.line) }
@@ -177,6 +201,7 @@ impl<'a> Core<'a> {
         let n = node.0 as usize;
         self.words[w.0 as usize] = now;
         self.minds[n] = mind;
+        self.watches[n] = Watch::Closely;
         self.clocks[n] = stamp;
         self.events += 1;
     }

@@ -1,113 +1,82 @@
-ghost use Rattle.std.specs.Prelude.{◌≡◌, ℕ, ◌<◌, ◌≤◌, ◌^◌, length, slice_index_or, Some, IfSome, if◌then◌else◌};
+ghost use Rattle.std.specs.Prelude.{◌≡◌, ◌<◌, ◌^◌, true, slice_index_or, is_some, Some, IfSome};
 ghost use Rattle.rl_base.specs.declared.layout.NodeKind.TheVariants as nodes;
 ghost use Rattle.rl_base.specs.Layout.{node_count};
 ghost use Rattle.rl_tables.specs.Starts.{layout_of};
 ghost use Rattle.rl_runs.specs.Numbers.{node_at};
+ghost use Rattle.rl_runs.specs.Step.{is_ready};
 ghost use Rattle.rl_core.specs.Cores.{state_of};
 ghost use Rattle.rl_core.specs.Looks.{IsGlance};
+ghost use Rattle.rl_core.specs.Watches.{waits_of};
 
 use crate::cores::Core;
-use crate::look::{Glance, Who};
-use crate::turns::is_ready;
-use rl_base::{BoxId, NodeNo, TrainId};
-use rl_box::BoxMind;
-use rl_runs::{Mind, numbered};
-use rl_track::{MachineMind, TrackMind};
-use rl_train::TrainMind;
-use rl_words::payload_of;
+use crate::look::Glance;
+use crate::watches::Watch;
+use rl_base::{Arm, BoxId, NodeNo, TrainId};
+use rl_box::{BoxMind, Work, box_glances};
+use rl_runs::numbered;
+use rl_words::{Path, payload_of};
+
+/// A ready box, which waits for its points or doesn't. For which path it waits is nothing that a glance sees.
+fn ready_box(waits: bool) -> BoxMind
+    ensures work { result.work ≡ Work.Ready }
+    ensures waiting { is_some result.waiting ≡ waits }
+{
+    let path = Path {
+        train: TrainId(0),
+        x: Arm(0),
+        y: Arm(0),
+    };
+    BoxMind {
+        work: Work::Ready,
+        waiting: if waits { Some(path) } else { None },
+    }
+}
 
 impl<'a> Core<'a> {
-    /// A glance of a train that waits.
-    fn glance_train(&self, node: NodeNo, t: TrainId, mind: &TrainMind) -> Option<Glance>
-        requires at { node_at (layout_of self.now.line) node.0 ≡ Some (nodes.Train t) }
-        requires mind { (state_of self.now).minds node.0 ≡ Mind.Train mind.now }
-        requires few { self.now.events < 2 ^ 32 }
-        ensures { IfSome result (λ g. (scan : ℕ) → IsGlance self.now.line (state_of self.now) node.0 scan g) }
-    {
-        self.sound();
-        numbered();
-        if !mind.waits {
-            return None;
-        }
-        let word = mind.target(&self.line().layout(), self.line().train_table(t))?;
-        let was = self.word_at(word);
-        if mind.may_step(payload_of(was)) {
-            return None;
-        }
-        let ready = false;
-        Some(Glance { word, was, ready })
-    }
-
-    /// A glance of the track of a train.
-    fn glance_track(&self, node: NodeNo, t: TrainId, mind: &TrackMind) -> Option<Glance>
-        requires at { node_at (layout_of self.now.line) node.0 ≡ Some (nodes.Track t) }
-        requires mind { (state_of self.now).minds node.0 ≡ Mind.Track mind.now }
-        requires few { self.now.events < 2 ^ 32 }
-        ensures { IfSome result (λ g. (scan : ℕ) → IsGlance self.now.line (state_of self.now) node.0 scan g) }
-    {
-        self.sound();
-        numbered();
-        let word = mind.target(&self.line().layout(), t);
-        let was = self.word_at(word);
-        if mind.may_step(payload_of(was)) {
-            return None;
-        }
-        let ready = false;
-        Some(Glance { word, was, ready })
-    }
-
     /// A glance of a ready box at its scan place.
-    fn glance_box(&self, node: NodeNo, b: BoxId, mind: &BoxMind, scan: u32) -> Option<Glance>
+    #[inline(always)]
+    fn glance_box(&self, node: NodeNo, b: BoxId, waits: bool) -> Option<Glance>
         requires at { node_at (layout_of self.now.line) node.0 ≡ Some (nodes.Box b) }
-        requires mind { (state_of self.now).minds node.0 ≡ Mind.Box mind.now }
-        requires scan { scan ≤ length self.now.line.trains }
+        requires ready { is_ready ((state_of self.now).minds node.0) ≡ true }
+        requires waits { waits ≡ waits_of ((state_of self.now).minds node.0) }
+        requires there { node.0 < node_count (layout_of self.now.line) }
         requires few { self.now.events < 2 ^ 32 }
-        ensures { IfSome result (IsGlance self.now.line (state_of self.now) node.0 scan) }
+        ensures { IfSome result (IsGlance self.now.line (state_of self.now) node.0
+            (slice_index_or self.now.scans node.0 0)) }
     {
         self.sound();
         numbered();
-        let ready = is_ready(mind);
-        if !ready {
-            return None;
-        }
-        let word = mind.target(&self.line().layout(), self.line().box_table(b), scan);
+        box_glances();
+        let scan = self.scan(node);
+        let word = BoxMind::start().target(&self.line().layout(), self.line().box_table(b), scan);
         let was = self.word_at(word);
-        if mind.may_step(b, payload_of(was)) {
+        if ready_box(waits).may_step(b, payload_of(was)) {
             return None;
         }
-        Some(Glance { word, was, ready })
+        Some(Glance::Idles(word, was, true))
     }
 
-    /// A glance of a point machine.
-    fn glance_machine(&self, node: NodeNo, b: BoxId, mind: &MachineMind) -> Option<Glance>
-        requires at { node_at (layout_of self.now.line) node.0 ≡ Some (nodes.Machine b) }
-        requires mind { (state_of self.now).minds node.0 ≡ Mind.Machine mind.now }
-        requires few { self.now.events < 2 ^ 32 }
-        ensures { IfSome result (λ g. (scan : ℕ) → IsGlance self.now.line (state_of self.now) node.0 scan g) }
-    {
-        self.sound();
-        numbered();
-        let word = mind.target(&self.line().layout(), b);
-        let was = self.word_at(word);
-        if mind.may_step(payload_of(was)) {
-            return None;
-        }
-        let ready = false;
-        Some(Glance { word, was, ready })
-    }
-
-    /// A glance of the node at its target, by the packed word alone. `None` where it has to look closely.
+    /// A glance of the node at its target, by what is kept of it. `None` where it has to look closely.
+    #[inline(always)]
     pub(crate) fn glance(&self, node: NodeNo) -> Option<Glance>
         requires there { node.0 < node_count (layout_of self.now.line) }
         requires few { self.now.events < 2 ^ 32 }
         ensures { IfSome result (IsGlance self.now.line (state_of self.now) node.0
             (slice_index_or self.now.scans node.0 0)) }
     {
-        match self.who(node) {
-            Who::Train(t, mind) => self.glance_train(node, t, mind),
-            Who::Track(t, mind) => self.glance_track(node, t, mind),
-            Who::Box(b, mind) => self.glance_box(node, b, mind, self.scan(node)),
-            Who::Machine(b, mind) => self.glance_machine(node, b, mind),
+        self.sound();
+        match self.watch(node) {
+            Watch::Closely => None,
+            Watch::Rests => Some(Glance::Rests),
+            Watch::At(word, was) => {
+                let seen = self.word_at(word);
+                if was == seen {
+                    Some(Glance::Idles(word, was, false))
+                } else {
+                    None
+                }
+            }
+            Watch::Scans(b, waits) => self.glance_box(node, b, waits),
         }
     }
 }

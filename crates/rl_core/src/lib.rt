@@ -13,6 +13,7 @@ pub mod replays;
 pub mod reports;
 mod starts;
 mod turns;
+mod watches;
 mod worlds;
 
 pub use cores::Core;

@@ -13,13 +13,13 @@ pub enum Who<'a> {
     Machine(BoxId, &'a MachineMind),
 }
 
-/// What a node sees where a glance at its target tells that it has no step there: the word and its whole value, and
-/// whether the node is a ready box.
+/// What a node without a step sees at a glance.
 #[derive(Clone, Copy, Debug, PartialEq, Eq)]
-pub struct Glance {
-    pub word: WordNo,
-    pub was: u64,
-    pub ready: bool,
+pub enum Glance {
+    /// It is a train at rest, and looks at none.
+    Rests,
+    /// The word that it looks at and its whole value, and whether the node is a ready box.
+    Idles(WordNo, u64, bool),
 }
 
 /// What a node sees where it looks at its target.

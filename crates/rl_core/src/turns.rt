@@ -1,16 +1,18 @@
-ghost use Rattle.std.specs.Prelude.{◌≡◌, ℕ, ◌+◌, ◌<◌, ◌≤◌, ◌^◌, length, slice_get, slice_index_or, Some, None, if◌then◌else◌};
+ghost use Rattle.std.specs.Prelude.{◌≡◌, ℕ, ◌+◌, ◌<◌, ◌≤◌, ◌^◌, true, false, length, slice_get, slice_index_or, Some, None, if◌then◌else◌};
 ghost use Rattle.rl_base.specs.declared.layout.NodeKind.TheVariants as nodes;
 ghost use Rattle.rl_base.specs.Layout.{node_count, node_number, word_count};
 ghost use Rattle.rl_tables.specs.Starts.{layout_of};
 ghost use Rattle.rl_runs.specs.Numbers.{node_at};
-ghost use Rattle.rl_runs.specs.Step.{has_nothing};
+ghost use Rattle.rl_runs.specs.Step.{has_nothing, is_ready};
 ghost use Rattle.rl_runs.specs.Turn.{Drive, turn_of, answer_of};
 ghost use Rattle.rl_core.specs.Cores.{state_of, LeadsTo};
-ghost use Rattle.rl_core.specs.Looks.{IsWho, IsLook, after_look, answer_to};
+ghost use Rattle.rl_core.specs.Looks.{IsWho, IsLook, look_of, ready_of, after_look, answer_to};
 ghost use Rattle.rl_core.specs.Made.{advanced};
+ghost use Rattle.rl_core.specs.Watches.{waits_of};
 
 use crate::cores::Core;
 use crate::look::{Glance, Look, Who};
+use crate::watches::Watch;
 use rl_base::{BoxId, NodeKind, NodeNo, TrainId};
 use rl_box::{BoxMind, Work};
 use rl_record::Turn;
@@ -176,14 +178,62 @@ impl<'a> Core<'a> {
         }
     }
 
-    /// The turn of a node that has no step at its target, as a glance has told.
+    /// The turn of a node without a step, as a glance has told.
+    #[inline(always)]
     fn pass(&mut self, node: NodeNo, glance: Glance) -> Turn
         requires there { node.0 < node_count (layout_of self.old.line) }
-        ensures core { self.new ≡ (if glance.ready then advanced self.old node.0 else self.old) }
-        ensures answer { result ≡ Turn.Idle glance.was }
+        ensures core { self.new ≡ (if ready_of glance then advanced self.old node.0 else self.old) }
+        ensures answer { result ≡ answer_to self.old node.0 (look_of glance) }
     {
-        self.go_on(node, glance.ready);
-        Turn::Idle(glance.was)
+        match glance {
+            Glance::Rests => Turn::Rest,
+            Glance::Idles(_, was, scans) => {
+                self.go_on(node, scans);
+                Turn::Idle(was)
+            }
+        }
+    }
+
+    /// What a node sees that has no step is kept of it.
+    fn keep_look(&mut self, node: NodeNo, look: Look)
+        requires there { node.0 < node_count (layout_of self.old.line) }
+        requires few { self.old.events < 4294967295 }
+        requires look { (scan : ℕ) → IsLook self.old.line (state_of self.old) node.0 scan look }
+        requires unready { is_ready ((state_of self.old).minds node.0) ≡ false }
+        ensures { self.new ≡ self.old }
+    {
+        self.sound();
+        match look {
+            Look::Rests => self.keep(node, Watch::Rests),
+            Look::Idles(w, was) => self.keep(node, Watch::At(w, was)),
+            Look::Steps(_, _, _, _) => {}
+        }
+    }
+
+    /// Changes what the step of the look changes, or keeps what the node sees, and says what the turn came to.
+    fn make_and_keep(&mut self, node: NodeNo, look: Look) -> Turn
+        requires there { node.0 < node_count (layout_of self.old.line) }
+        requires few { self.old.events < 4294967295 }
+        requires look { (scan : ℕ) → IsLook self.old.line (state_of self.old) node.0 scan look }
+        requires unready { is_ready ((state_of self.old).minds node.0) ≡ false }
+        ensures core { self.new ≡ after_look self.old node.0 look }
+        ensures answer { result ≡ answer_to self.old node.0 look }
+    {
+        self.keep_look(node, look);
+        self.make(node, look)
+    }
+
+    /// What is kept of a box that is ready.
+    fn keep_scanning(&mut self, node: NodeNo, b: BoxId, ready: bool, waits: bool)
+        requires there { node.0 < node_count (layout_of self.old.line) }
+        requires at { node_at (layout_of self.old.line) node.0 ≡ Some (nodes.Box b) }
+        requires ready { ready ≡ is_ready ((state_of self.old).minds node.0) }
+        requires waits { waits ≡ waits_of ((state_of self.old).minds node.0) }
+        ensures { self.new ≡ self.old }
+    {
+        if ready {
+            self.keep(node, Watch::Scans(b, waits));
+        }
     }
 
     /// One turn of the node: it looks at its target, and makes the step there, if it has one. Moved has the event;
@@ -205,13 +255,38 @@ impl<'a> Core<'a> {
         self.reached();
         match self.glance(node) {
             Some(glance) => self.pass(node, glance),
-            None => self.turn_to_target(node),
+            None => self.turn_closely(node),
         }
     }
 
-    /// The turn of a node that has to look closely.
+    /// Makes the turn of the node if a glance tells that it has no step, and says whether it did. No event comes of
+    /// it then; where it wasn't made, all is as it was, and `turn` makes it.
+    #[inline(always)]
+    pub fn passes(&mut self, node: NodeNo) -> bool
+        requires there { node.0 < node_count (layout_of self.old.line) }
+        requires few { self.old.events < 4294967295 }
+        ensures turned { result ≡ true → (d : Drive) → LeadsTo d self.old
+            → LeadsTo (turn_of self.old.line self.old.tries d node.0) self.new }
+        ensures no_event { result ≡ true → (d : Drive) → LeadsTo d self.old
+            → (turn_of self.old.line self.old.tries d node.0).events ≡ d.events }
+        ensures line { self.new.line ≡ self.old.line }
+        ensures tries { self.new.tries ≡ self.old.tries }
+        ensures unchanged { result ≡ false → self.new ≡ self.old }
+    {
+        self.reached();
+        match self.glance(node) {
+            Some(glance) => {
+                let _answer = self.pass(node, glance);
+                true
+            }
+            None => false,
+        }
+    }
+
+    /// The turn of the node, which looks closely at its target whatever is kept of it: for a node of which `passes` has
+    /// said no, and else the same turn as `turn`.
     #[inline(never)]
-    fn turn_to_target(&mut self, node: NodeNo) -> Turn
+    pub fn turn_closely(&mut self, node: NodeNo) -> Turn
         requires there { node.0 < node_count (layout_of self.old.line) }
         requires few { self.old.events < 4294967295 }
         ensures turned { (d : Drive) → LeadsTo d self.old
@@ -225,22 +300,24 @@ impl<'a> Core<'a> {
         match self.who(node) {
             Who::Train(t, mind) => {
                 let look = self.look_train(node, t, mind);
-                self.make(node, look)
+                self.make_and_keep(node, look)
             }
             Who::Track(t, mind) => {
                 let look = self.look_track(node, t, mind);
-                self.make(node, look)
+                self.make_and_keep(node, look)
             }
             Who::Box(b, mind) => {
                 let ready = is_ready(mind);
+                let waits = mind.waiting.is_some();
                 let look = self.look_box(node, b, mind, self.scan(node));
+                self.keep_scanning(node, b, ready, waits);
                 let answer = self.make(node, look);
                 self.go_on(node, ready);
                 answer
             }
             Who::Machine(b, mind) => {
                 let look = self.look_machine(node, b, mind);
-                self.make(node, look)
+                self.make_and_keep(node, look)
             }
         }
     }

@@ -8,10 +8,10 @@ use std::process::Abort;
 use std::test::Fail;
 
 /// What was seen: the round, counted from 1, and an event of it.
-pub type Seen = (u32, Event);
+pub(crate) type Seen = (u32, Event);
 
 /// The tables of the network of the text.
-pub fn line_of(alloc: Global, text: &str) -> Result<Line, Fail> {
+pub(crate) fn line_of(alloc: Global, text: &str) -> Result<Line, Fail> {
     let net = network(alloc, text)?;
     Ok(compile(alloc, &net)?)
 }
@@ -48,7 +48,7 @@ fn round(
 }
 
 /// The events of so many rounds from the start.
-pub fn seen_in_rounds(
+pub(crate) fn seen_in_rounds(
     rt: &impl Abort,
     alloc: Global,
     line: &Line,
@@ -80,7 +80,7 @@ fn turns(
 }
 
 /// The events of these turns from the start: each line has a node, and how many turns it gets. The round is 0.
-pub fn seen_in_turns(
+pub(crate) fn seen_in_turns(
     rt: &impl Abort,
     alloc: Global,
     line: &Line,

@@ -6,7 +6,7 @@ use std::test::Fail;
 /// Two segments in a line, and a train that goes from the first to the second. Its nodes are train 0, track 1, the
 /// boxes W 2, J1 3 and E 4, and their machines 5 to 7. Of its words 1 to 3 are the reservations, 4 to 6 the locks,
 /// 7 the mail, 8 the run and 9 the sense word.
-pub const STRAIGHT: &str = r#"format = 1
+pub(crate) const STRAIGHT: &str = r#"format = 1
 segments = ["A", "B"]
 box = [
   { name = "W", kind = "buffer", arms = ["A"] },
@@ -17,7 +17,7 @@ train = [{ name = "T1", route = ["A", "J1", "B"] }]
 "#;
 
 /// The same with a second train, which stands on the second segment.
-pub const OCCUPIED: &str = r#"format = 1
+pub(crate) const OCCUPIED: &str = r#"format = 1
 segments = ["A", "B"]
 box = [
   { name = "W", kind = "buffer", arms = ["A"] },
@@ -28,7 +28,7 @@ train = [{ name = "T1", route = ["A", "J1", "B"] }, { name = "T2", route = ["B"]
 "#;
 
 /// A point that stands at left, and a train that goes right.
-pub const FORK: &str = r#"format = 1
+pub(crate) const FORK: &str = r#"format = 1
 segments = ["S", "L", "R"]
 box = [
   { name = "W", kind = "buffer", arms = ["S"] },
@@ -40,7 +40,7 @@ train = [{ name = "T1", route = ["S", "P", "R"] }]
 "#;
 
 /// Two tracks that cross, with a train on each.
-pub const CROSSING: &str = r#"format = 1
+pub(crate) const CROSSING: &str = r#"format = 1
 segments = ["A", "B", "C", "D"]
 box = [
   { name = "X", kind = "crossing", arms = ["A", "B", "C", "D"] },
@@ -53,6 +53,6 @@ train = [{ name = "T1", route = ["A", "X", "B"] }, { name = "T2", route = ["C", 
 "#;
 
 /// The network of the text.
-pub fn network(alloc: Global, text: &str) -> Result<Network, Fail> {
+pub(crate) fn network(alloc: Global, text: &str) -> Result<Network, Fail> {
     Ok(check(alloc, read_draft(alloc, text.as_bytes())?)?)
 }

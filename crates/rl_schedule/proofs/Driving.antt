@@ -108,6 +108,38 @@ goes_turn core new n turn moves reached turned answer line tries =
       };
     }
 
+-- by a turn without an event
+pub goes_passed : (core new : Core) (n : ℕ) (moves : List Move) → IsReached core
+    → ((d : Drive) → LeadsTo d core → LeadsTo (turn_of core.line core.tries d n) new)
+    → ((d : Drive) → LeadsTo d core → (turn_of core.line core.tries d n).events ≡ d.events) → new.line ≡ core.line → new.tries ≡ core.tries
+    → GoesOn core moves (n ∷ []) new moves
+goes_passed core new n moves reached turned quiet line tries =
+    record {
+      line = line;
+      events =
+          let d = reached.drive in
+          let same : length (turn_of core.line core.tries d n).events ≡ length d.events = ap length (quiet d reached.leads) in
+          let was : core.events ≡ length d.events = reached.leads.events in
+          let now : new.events ≡ length (turn_of core.line core.tries d n).events = (turned d reached.leads).events in
+          omega arith;
+      on = λ from before driven. record {
+        leads = record {
+          line = line ∙ driven.leads.line;
+          tries = tries ∙ driven.leads.tries;
+          drives = λ d leads.
+              let there = driven.leads.drives d leads in
+              let next = turned (fold (turn_of from.line from.tries) d before) there in
+              rw (fold-append (turn_of from.line from.tries) d before (n ∷ [])) (rw (driven.leads.line, driven.leads.tries) at next);
+        };
+        makes = λ d leads.
+            let end = fold (turn_of from.line from.tries) d before in
+            let same : (turn_of from.line from.tries end n).events ≡ end.events =
+            rw (driven.leads.line, driven.leads.tries) at (quiet end (driven.leads.drives d leads)) in
+            rw (fold-append (turn_of from.line from.tries) d before (n ∷ []))
+            (ap (moves_of from.line) same ∙ driven.makes d leads);
+      };
+    }
+
 -- by a turn whose move was put behind the others
 pub goes_put : (core new : Core) (n : ℕ) (turn : Turn) (line : Tables) (moves then_moves : List Move) (o : Option Move) → IsReached core
     → ((d : Drive) → LeadsTo d core → LeadsTo (turn_of core.line core.tries d n) new)

@@ -25,9 +25,10 @@ fn move_in(line: &Line, turn: &Turn) -> Option<Move>
     }
 }
 
-/// A turn of the node; its move is put behind the others. Where there is no place for a move, it isn't made.
-#[inline(always)]
-fn drive_turn(core: &mut Core<'_>, node: NodeNo, moves: &mut Vec<Move>) -> Result<(), NoMemory>
+/// A turn of the node by a close look; its move is put behind the others. Where there is no place for a move, it isn't
+/// made.
+#[inline(never)]
+fn drive_closely(core: &mut Core<'_>, node: NodeNo, moves: &mut Vec<Move>) -> Result<(), NoMemory>
     requires there { node.0 < node_count (layout_of core.old.line) }
     requires few { core.old.events < 4294967295 }
     ensures ok { OnOk result (GoesOn core.old moves.old.items (node.0 ∷ []) core.new moves.new.items) }
@@ -35,11 +36,27 @@ fn drive_turn(core: &mut Core<'_>, node: NodeNo, moves: &mut Vec<Move>) -> Resul
 {
     moves.reserve(1)?;
     core.reached();
-    let turn = core.turn(node);
+    let turn = core.turn_closely(node);
     if let Some(m) = move_in(core.line(), &turn) {
         moves.push_reserved(m);
     }
     Ok(())
+}
+
+/// A turn of the node, for which a place is taken only where a glance doesn't tell that it makes no move.
+#[inline(always)]
+fn drive_turn(core: &mut Core<'_>, node: NodeNo, moves: &mut Vec<Move>) -> Result<(), NoMemory>
+    requires there { node.0 < node_count (layout_of core.old.line) }
+    requires few { core.old.events < 4294967295 }
+    ensures ok { OnOk result (GoesOn core.old moves.old.items (node.0 ∷ []) core.new moves.new.items) }
+    ensures err { OnErr result (core.new ≡ core.old) }
+{
+    core.reached();
+    if core.passes(node) {
+        Ok(())
+    } else {
+        drive_closely(core, node, moves)
+    }
 }
 
 /// So many turns of the node.
@@ -131,7 +148,7 @@ fn drive_items(
 }
 
 /// Makes the turns of a schedule, and gives their moves in order. It takes memory for the moves alone, a place before
-/// each turn; where there is none, the core stands after a beginning of the turns.
+/// each turn that may make one; where there is none, the core stands after a beginning of the turns.
 pub fn drive(alloc: Global, core: &mut Core<'_>, schedule: &Schedule) -> Result<Moves, NoMemory>
     requires fits { IsScheduleFor (node_count (layout_of core.old.line)) schedule.now }
     requires few { core.old.events + turns_together (node_count (layout_of core.old.line)) schedule.now ≤ 4294967295 }

@@ -1,21 +1,7 @@
-use Rattle.std.proofs.Common.{[], ◌∷◌, ◌++◌, Some, None, sym, ap, ◌∙◌}
-use Rattle.std.proofs.lemmas.List.{append-nil}
-use Rattle.rl_schedule.proofs.Driving.{on_line, goes_put}
+use Rattle.rl_schedule.proofs.Driving.{goes_passed}
 use Rattle.rl_schedule.proofs.drives.drive_turn.Goals as goal
 
-pub move_in-requires : goal.move_in-requires
-move_in-requires c = on_line c.args.core.now c.turn-turn.new.self c.args.node.0 c.turn-turn.result c.line.result.now c.reached.ensures
-    c.turn-turn.ensures.answer c.turn-turn.ensures.line c.line.ensures
-
-pub returns-in-Some-clause-ok : goal.returns-in-Some-clause-ok
-returns-in-Some-clause-ok c =
-    goes_put c.args.core.now c.turn-turn.new.self c.args.node.0 c.turn-turn.result c.line.result.now c.args.moves.now.items c.push_reserved.new.self.items
-    (Some c.in-Some.m)
-    c.reached.ensures c.turn-turn.ensures.turned c.turn-turn.ensures.answer c.turn-turn.ensures.line c.turn-turn.ensures.tries c.line.ensures
-    (sym c.in-Some.is ∙ c.move_in.ensures) (c.push_reserved.ensures.items ∙ ap (λ l. l ++ c.in-Some.m ∷ []) c.reserve.ensures.items)
-
-pub returns-in_default-clause-ok : goal.returns-in_default-clause-ok
-returns-in_default-clause-ok c =
-    goes_put c.args.core.now c.turn-turn.new.self c.args.node.0 c.turn-turn.result c.line.result.now c.args.moves.now.items c.reserve.new.self.items None
-    c.reached.ensures c.turn-turn.ensures.turned c.turn-turn.ensures.answer c.turn-turn.ensures.line c.turn-turn.ensures.tries c.line.ensures
-    (sym c.in_default.is ∙ c.move_in.ensures) (c.reserve.ensures.items ∙ sym (append-nil c.args.moves.now.items))
+pub returns-then-passes-clause-ok : goal.returns-then-passes-clause-ok
+returns-then-passes-clause-ok c =
+    goes_passed c.args.core.now c.passes.new.self c.args.node.0 c.args.moves.now.items c.reached.ensures (c.passes.ensures.turned c.if-passes.true)
+    (c.passes.ensures.no_event c.if-passes.true) c.passes.ensures.line c.passes.ensures.tries
