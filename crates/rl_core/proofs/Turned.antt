@@ -200,3 +200,7 @@ no_event core n glance there is d leads =
     let place : d.scans n ≡ slice_index_or core.scans n 0 = sym (get_or_from_slice_get core.scans n (d.scans n) 0 (leads.scans n there)) in
     ap (λ (x : Drive). x.events) (turn_looked core d n (slice_index_or core.scans n 0) (look_of glance) leads place is.look)
     ∙ same_events core d.events n glance
+
+pub same_count : (core : Core) (n : ℕ) (ready : Bool) → (let mine : Core = if ready then advanced core n else core in mine.events) ≡ core.events
+same_count core n false = refl
+same_count core n true = refl

@@ -271,6 +271,7 @@ impl<'a> Core<'a> {
             → (turn_of self.old.line self.old.tries d node.0).events ≡ d.events }
         ensures line { self.new.line ≡ self.old.line }
         ensures tries { self.new.tries ≡ self.old.tries }
+        ensures events { self.new.events ≡ self.old.events }
         ensures unchanged { result ≡ false → self.new ≡ self.old }
     {
         self.reached();

@@ -1,4 +1,5 @@
-use Rattle.rl_core.proofs.Turned.{passed_by, no_event}
+use Rattle.rl_core.specs.Looks.{ready_of}
+use Rattle.rl_core.proofs.Turned.{passed_by, no_event, same_count}
 use Rattle.rl_core.proofs.cores.Core.passes.Goals as goal
 
 pub returns-in-Some : goal.returns-in-Some
@@ -10,5 +11,6 @@ returns-in-Some c =
       no_event = λ passed. no_event c.args.self.now c.args.node.0 c.in-Some.glance c.requires.there c.in-Some.ensures;
       line = done.line;
       tries = done.tries;
+      events = rw c.pass-answer.ensures.core (same_count c.args.self.now c.args.node.0 (ready_of c.in-Some.glance));
       unchanged = λ other. absurd (cc);
     }
