@@ -3,6 +3,9 @@ ghost use Rattle.std.specs.List.{list_all};
 ghost use Rattle.rl_base.specs.Draft.{HasNames};
 ghost use Rattle.rl_base.specs.Name.{is_name};
 
+mod beginnings;
+mod limits;
+
 use crate::{ReportRefusal, Verdict, audit};
 use rl_base::{
     Draft, DraftBox, DraftBoxes, DraftTrain, DraftTrains, Kind, Name, Names, NoMemory, Side,
@@ -87,6 +90,7 @@ const FAULTS: &str = "\
 1 =  relis report 1|tries 100|train T1 underway 0 0|end|
 1 = relis  report 1|tries 100|train T1 underway 0 0|end|
 1 = relis report 2|tries 100|train T1 underway 0 0|end|
+1 = relis report 1\r|tries 100|train T1 underway 0 0|end|
 2 = relis report 1|
 2 = relis report 1|tries 0|train T1 underway 0 0|end|
 2 = relis report 1|tries 1001|train T1 underway 0 0|end|
@@ -95,6 +99,8 @@ const FAULTS: &str = "\
 2 = relis report 1|tries|train T1 underway 0 0|end|
 3 = relis report 1|tries 100|leave T1  A|train T1 underway 0 0|end|
 3 = relis report 1|tries 100|leave T1 A |train T1 underway 0 0|end|
+3 = relis report 1|tries 100|leave T1 A\r|train T1 underway 0 0|end|
+3 = relis report 1|tries 100|leave T1 A\0|train T1 underway 0 0|end|
 3 = relis report 1|tries 100|leave T1 J1|train T1 underway 0 0|end|
 3 = relis report 1|tries 100|leave T9 A|train T1 underway 0 0|end|
 3 = relis report 1|tries 100|leave A A|train T1 underway 0 0|end|
@@ -119,6 +125,16 @@ const FAULTS: &str = "\
 5 = relis report 1|tries 100|train T1 underway 0 0|end|end|
 5 = relis report 1|tries 100|train T1 underway 0 0|end||
 5 = relis report 1|tries 100|train T1 underway 0 0|end|x
+5 = relis report 1|tries 100|train T1 underway 0 0|end|\0
+";
+
+/// The same of the line with two trains: their lines out of order, one missing, and one too many.
+const FAULTS_OF_TWO: &str = "\
+3 = relis report 1|tries 100|train T2 underway 0 0|train T1 underway 0 0|end|
+3 = relis report 1|tries 100|train T2 underway 0 0|end|
+4 = relis report 1|tries 100|train T1 underway 0 0|end|
+4 = relis report 1|tries 100|train T1 underway 0 0|train T1 underway 0 0|end|
+5 = relis report 1|tries 100|train T1 underway 0 0|train T2 underway 0 0|train T2 underway 0 0|end|
 ";
 
 fn are_names(names: &[Name]) -> bool
@@ -281,20 +297,26 @@ fn names_each_guard(rt: HostRuntime) -> Result<(), Fail> {
     assert_verdicts(&rt, rt.alloc(), FORK_OF_TWO, GUARDS, outcomes)
 }
 
-#[test]
-fn names_the_first_fault(rt: HostRuntime) -> Result<(), Fail> {
-    let alloc = rt.alloc();
-    let net = network_of(&rt, alloc, LINE)?;
-    for case in FAULTS.lines() {
+/// Asserts the first fault of each text of a table.
+fn assert_faults(rt: &impl Abort, alloc: Global, short: &str, table: &str) -> Result<(), Fail> {
+    let net = network_of(rt, alloc, short)?;
+    for case in table.lines() {
         let (want, short) = case.split_once(" = ").unwrap_or((case, ""));
         let mut text = Vec::new(alloc);
         put_text(&mut text, short)?;
         let answer = answer_of(alloc, &net, text.as_slice())?;
-        assert_eq!(rt; answer.as_str(), want);
+        assert_eq!(rt; answer.as_str(), want, "{case}");
         assert!(rt;
             read_report(alloc, &net, text.as_slice()).is_err(),
             "{case}"
         );
     }
     Ok(())
+}
+
+#[test]
+fn names_the_first_fault(rt: HostRuntime) -> Result<(), Fail> {
+    let alloc = rt.alloc();
+    assert_faults(&rt, alloc, LINE, FAULTS)?;
+    assert_faults(&rt, alloc, LINE_OF_TWO, FAULTS_OF_TWO)
 }
