@@ -1,12 +1,14 @@
 -- A turn by what its node sees: the run that it leaves, the scan places, and the answer.
-use Rattle.std.proofs.Common.{◌≡◌, ℕ, ◌+◌, ◌<◌, ◌≤◌, List, ◌∷◌, slice_get, slice_index_or, Some, refl, sym, ap, ◌∙◌, inl, inr, if◌then◌else◌, Bool, true, false, arith}
+use Rattle.std.proofs.Common.{◌≡◌, ℕ, ◌+◌, ◌<◌, ◌≤◌, List, ◌∷◌, slice_get, slice_index_or, Some, refl, sym, ap, subst, ◌∙◌, inl, inr, if◌then◌else◌, Bool, true, false, arith}
 use Rattle.std.proofs.lemmas.Bool.{cases_eq, ne_eqb}
 use Rattle.std.proofs.lemmas.Bool.Decides.{nat_tests}
 use Rattle.std.proofs.lemmas.List.{length-set}
 use Rattle.std.proofs.lemmas.Option.{get_or_from_slice_get}
+use Rattle.rl_base.specs.declared.ids.WordNo.{WordNo}
 use Rattle.rl_base.specs.Layout.{node_count}
 use Rattle.rl_record.specs.declared.event.Event.{Event}
 use Rattle.rl_record.specs.declared.event.Turn.{Turn}
+use Rattle.rl_tables.specs.declared.table.Tables.{Tables}
 use Rattle.rl_tables.specs.Starts.{layout_of}
 use Rattle.rl_runs.specs.declared.mind.Mind.{Mind}
 use Rattle.rl_runs.specs.Step.{is_ready}
@@ -19,7 +21,7 @@ use Rattle.rl_core.specs.declared.look.Look.{Look}
 use Rattle.rl_core.specs.declared.look.Look.TheVariants.{Rests, Idles, Steps}
 use Rattle.rl_core.specs.Cores.{Core, state_of, LeadsTo, HasSizes}
 use Rattle.rl_core.specs.Made.{event_in, made, advanced}
-use Rattle.rl_core.specs.Looks.{IsLook, IsGlance, look_of, ready_of, after_look, answer_to, after_turn}
+use Rattle.rl_core.specs.Looks.{IsLook, IsGlance, IsNext, look_of, ready_of, after_look, answer_to, after_turn}
 use Rattle.rl_core.proofs.Onward.{leads_on}
 
 -- the events after the look
@@ -182,11 +184,13 @@ turned_by core mid new n look ready answer sizes there is mid_is ready_is new_is
 -- a turn of a node without a step, as a glance tells
 same_core : (core : Core) (n : ℕ) (glance : Glance) → core ≡ after_look core n (look_of glance)
 same_core core n glances.Rests = refl
-same_core core n (glances.Idles w was ready) = refl
+same_core core n (glances.Idles w was) = refl
+same_core core n (glances.Scans w was next) = refl
 
 same_events : (core : Core) (events : List Event) (n : ℕ) (glance : Glance) → looked core events n (look_of glance) ≡ events
 same_events core events n glances.Rests = refl
-same_events core events n (glances.Idles w was ready) = refl
+same_events core events n (glances.Idles w was) = refl
+same_events core events n (glances.Scans w was next) = refl
 
 pub passed_by : (core new : Core) (n : ℕ) (glance : Glance) (answer : Turn) → HasSizes core → n < node_count (layout_of core.line)
     → IsGlance core.line (state_of core) n (slice_index_or core.scans n 0) glance → new ≡ (if ready_of glance then advanced core n else core)
@@ -204,3 +208,8 @@ no_event core n glance there is d leads =
 pub same_count : (core : Core) (n : ℕ) (ready : Bool) → (let mine : Core = if ready then advanced core n else core in mine.events) ≡ core.events
 same_count core n false = refl
 same_count core n true = refl
+
+-- the place that a glance of a ready box tells
+pub next_told : (tables : Tables) (scan : ℕ) (glance : Glance) (w : WordNo) (was next : ℕ) → glance ≡ glances.Scans w was next
+    → IsNext tables scan glance → next ≡ next_place tables scan
+next_told tables scan glance w was next is told = subst (λ (g : Glance). IsNext tables scan g) is told

@@ -21,23 +21,25 @@ use Rattle.rl_box.specs.Steps.{box_step}
 use Rattle.rl_runs.specs.declared.mind.Mind.{Mind}
 use Rattle.rl_runs.specs.declared.mind.Mind.TheVariants.{Train, Track, Box, Machine}
 use Rattle.rl_runs.specs.State.{CoreState}
+use Rattle.rl_runs.specs.Turn.{next_place}
 use Rattle.rl_runs.specs.Step.{is_ready, has_nothing}
 use Rattle.rl_core.specs.declared.look.Glance.TheVariants as glances
 use Rattle.rl_core.specs.declared.look.Look.{Look}
 use Rattle.rl_core.specs.declared.look.Look.TheVariants.{Rests, Idles}
 use Rattle.rl_core.specs.declared.watches.Watch.{Watch}
 use Rattle.rl_core.specs.declared.watches.Watch.TheVariants as watches
+use Rattle.rl_core.specs.declared.watches.Rare.TheVariants as rares
 use Rattle.rl_core.specs.Cores.{Core, state_of, HasSizes}
 use Rattle.rl_core.specs.Looks.{IsLook, IsGlance}
 use Rattle.rl_core.specs.Watches.{WatchesWord, IsWatch, AreWatches}
 use Rattle.rl_core.proofs.Looking.{Looked}
 
 -- at the start every node has to look closely
-pub watches_start : (tables : Tables) (minds : List Mind) → AreWatches tables minds (replicate (node_count (layout_of tables)) watches.Closely)
+pub watches_start : (tables : Tables) (minds : List Mind) → AreWatches tables minds (replicate (node_count (layout_of tables)) (watches.Rarely rares.Closely))
 watches_start tables minds =
     record {
-      size = length-replicate (node_count (layout_of tables)) watches.Closely;
-      each = λ n there. rw (get_or-replicate (node_count (layout_of tables)) n watches.Closely watches.Closely there) tt;
+      size = length-replicate (node_count (layout_of tables)) (watches.Rarely rares.Closely);
+      each = λ n there. rw (get_or-replicate (node_count (layout_of tables)) n (watches.Rarely rares.Closely) (watches.Rarely rares.Closely) there) tt;
     }
 
 -- a watch that is right of its node, where the other minds stay
@@ -50,8 +52,8 @@ watches_set tables old minds ws n watch there are others is =
       size = length-set ws n watch ∙ are.size;
       each = λ m within.
           elim (cases_eq m n) [
-            | inl same ↦ rw (same, get_or-set_same ws n watch watches.Closely (omega (arith, are.size))) is
-            | inr other ↦ rw (get_or-set_other ws n m watch watches.Closely other, others m other) (are.each m within)
+            | inl same ↦ rw (same, get_or-set_same ws n watch (watches.Rarely rares.Closely) (omega (arith, are.size))) is
+            | inr other ↦ rw (get_or-set_other ws n m watch (watches.Rarely rares.Closely) other, others m other) (are.each m within)
           ];
     }
 
@@ -61,9 +63,9 @@ watches_kept tables minds ws n watch there are is = watches_set tables minds min
 
 -- of a node with a new mind nothing is known
 pub watches_put : (tables : Tables) (minds : List Mind) (ws : List Watch) (n : ℕ) (mind : Mind) → n < node_count (layout_of tables)
-    → AreWatches tables minds ws → AreWatches tables (slice_set minds n mind) (slice_set ws n watches.Closely)
+    → AreWatches tables minds ws → AreWatches tables (slice_set minds n mind) (slice_set ws n (watches.Rarely rares.Closely))
 watches_put tables minds ws n mind there are =
-    watches_set tables minds (slice_set minds n mind) ws n watches.Closely there are (λ m other. get_or-set_other minds n m mind (Machine record {}) other) tt
+    watches_set tables minds (slice_set minds n mind) ws n (watches.Rarely rares.Closely) there are (λ m other. get_or-set_other minds n m mind (Machine record {}) other) tt
 
 -- a node that has no step where it looks, wherever it scans
 pub watch_idles : (core : Core) (n : ℕ) (seen : Look) (w : WordNo) (was : ℕ) → HasSizes core → seen ≡ Idles w was
@@ -76,15 +78,15 @@ watch_idles core n seen w was sizes is looks unready =
     record { target = λ scan. (look scan).0.target; within = omega (arith, sizes.words); none = (look 0).1; unready = unready }
 
 pub watch_rests : (core : Core) (n : ℕ) (seen : Look) → seen ≡ Rests → ((scan : ℕ) → IsLook core.line (state_of core) n scan seen)
-    → is_ready ((state_of core).minds n) ≡ false → IsWatch core.line n ((state_of core).minds n) watches.Rests
+    → is_ready ((state_of core).minds n) ≡ false → IsWatch core.line n ((state_of core).minds n) (watches.Rarely rares.Rests)
 watch_rests core n seen is looks unready =
     (λ scan. subst (λ (l : Look). IsLook core.line (state_of core) n scan l) is (looks scan), unready)
 
 -- the word that is watched is as it was
 pub glanced_at : (core : Core) (n scan : ℕ) (w : WordNo) (was seen : ℕ) → WatchesWord core.line n ((state_of core).minds n) w.0 was
-    → slice_get core.words w.0 ≡ Some seen → was ≡ seen → IsGlance core.line (state_of core) n scan (glances.Idles w was false)
+    → slice_get core.words w.0 ≡ Some seen → was ≡ seen → IsGlance core.line (state_of core) n scan (glances.Idles w was)
 glanced_at core n scan w was seen watch there same =
-    record { look = (record { target = watch.target scan; word = there ∙ ap Some (sym same) }, watch.none); ready = sym watch.unready }
+    record { look = (record { target = watch.target scan; word = there ∙ ap Some (sym same) }, watch.none); ready = sym watch.unready; next = tt }
 
 -- a ready box, and a word on which none has a step
 pub record IsReadyBox (c : CoreState) (n : ℕ) (m : BoxMind) : Type 0 where
@@ -121,6 +123,6 @@ no_step law x m other b kind payload number ready too same says =
     let seen : may_step b Ready other.waiting payload ≡ false = subst (λ (work : Work). may_step b work other.waiting payload ≡ false) too says in
     law x m kind payload (rw (number, ready) (whichever b other.waiting m.waiting payload same seen))
 
-pub glanced : (tables : Tables) (c : CoreState) (n scan was : ℕ) (w : WordNo) → Looked tables c n scan w.0 was None → is_ready (c.minds n) ≡ true
-    → IsGlance tables c n scan (glances.Idles w was true)
-glanced tables c n scan was w looks ready = record { look = (looks.sees, looks.step_is); ready = sym ready }
+pub glanced : (tables : Tables) (c : CoreState) (n scan was next : ℕ) (w : WordNo) → Looked tables c n scan w.0 was None → is_ready (c.minds n) ≡ true
+    → next ≡ next_place tables scan → IsGlance tables c n scan (glances.Scans w was next)
+glanced tables c n scan was next w looks ready is = record { look = (looks.sees, looks.step_is); ready = sym ready; next = is }

@@ -1,5 +1,5 @@
 -- What a node sees where it looks at its target.
-use Rattle.std.specs.Prelude.{◌≡◌, ℕ, Bool, false, slice_get, Some, None, if◌then◌else◌}
+use Rattle.std.specs.Prelude.{◌≡◌, ℕ, Bool, true, false, slice_get, Some, None, if◌then◌else◌}
 use Rattle.rl_base.specs.declared.layout.NodeKind.TheVariants as nodes
 use Rattle.rl_words.specs.Stamps.{payload_in}
 use Rattle.rl_tables.specs.declared.table.Tables.{Tables}
@@ -10,6 +10,7 @@ use Rattle.rl_record.specs.declared.event.Turn.{Turn}
 use Rattle.rl_record.specs.declared.event.Turn.TheVariants as turns
 use Rattle.rl_runs.specs.Step.{node_step, target_of, is_ready}
 use Rattle.rl_runs.specs.State.{CoreState}
+use Rattle.rl_runs.specs.Turn.{next_place}
 use Rattle.rl_core.specs.Cores.{Core, state_of}
 use Rattle.rl_core.specs.Made.{event_in, made, advanced}
 use Rattle.rl_core.specs.declared.look.Who.{Who}
@@ -50,16 +51,25 @@ IsLook tables c n scan (Steps w was payload mind) =
 -- a glance as a look, and whether it is that of a ready box
 abbrev pub look_of : Glance → Look
 look_of glances.Rests = Rests
-look_of (glances.Idles w was ready) = Idles w was
+look_of (glances.Idles w was) = Idles w was
+look_of (glances.Scans w was next) = Idles w was
 
 abbrev pub ready_of : Glance → Bool
 ready_of glances.Rests = false
-ready_of (glances.Idles w was ready) = ready
+ready_of (glances.Idles w was) = false
+ready_of (glances.Scans w was next) = true
+
+-- the place at which a ready box scans next
+abbrev pub IsNext : Tables → (scan : ℕ) → Glance → Type 0
+IsNext tables scan glances.Rests = Unit {0}
+IsNext tables scan (glances.Idles w was) = Unit {0}
+IsNext tables scan (glances.Scans w was next) = next ≡ next_place tables scan
 
 -- it rests or has no step on what it sees, and is a ready box or isn't
 pub record IsGlance (tables : Tables) (c : CoreState) (n scan : ℕ) (glance : Glance) : Type 0 where
   pub look : IsLook tables c n scan (look_of glance)
   pub ready : ready_of glance ≡ is_ready (c.minds n)
+  pub next : IsNext tables scan glance
 
 -- the core after a look, and what the turn then answers
 abbrev pub after_look : Core → ℕ → Look → Core

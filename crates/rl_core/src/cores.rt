@@ -12,7 +12,7 @@ ghost use Rattle.rl_core.specs.Made.{event_in, put_in, made, advanced};
 ghost use Rattle.rl_core.specs.Watches.{IsWatch};
 
 use crate::starts::{no_watches, start_minds, start_words, zeros};
-use crate::watches::Watch;
+use crate::watches::{Rare, Watch};
 use rl_base::{NoMemory, NodeNo, WordNo};
 use rl_record::Event;
 use rl_runs::{Mind, sound_runs};
@@ -201,7 +201,7 @@ impl<'a> Core<'a> {
         let n = node.0 as usize;
         self.words[w.0 as usize] = now;
         self.minds[n] = mind;
-        self.watches[n] = Watch::Closely;
+        self.watches[n] = Watch::Rarely(Rare::Closely);
         self.clocks[n] = stamp;
         self.events += 1;
     }
@@ -264,7 +264,7 @@ impl<'a> Core<'a> {
     }
 
     /// Writes a scan place.
-    fn put_scan(&mut self, node: NodeNo, place: u32)
+    pub(crate) fn put_scan(&mut self, node: NodeNo, place: u32)
         requires there { node.0 < length self.old.scans }
         requires reached { IsReached (record self.old { scans = slice_set self.old.scans node.0 place }) }
         ensures { self.new ≡ record self.old { scans = slice_set self.old.scans node.0 place } }

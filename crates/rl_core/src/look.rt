@@ -18,8 +18,10 @@ pub enum Who<'a> {
 pub enum Glance {
     /// It is a train at rest, and looks at none.
     Rests,
-    /// The word that it looks at and its whole value, and whether the node is a ready box.
-    Idles(WordNo, u64, bool),
+    /// The word that it looks at and its whole value.
+    Idles(WordNo, u64),
+    /// The same of a ready box, and the place at which it scans next.
+    Scans(WordNo, u64, u32),
 }
 
 /// What a node sees where it looks at its target.

@@ -5,7 +5,7 @@ ghost use Rattle.rl_tables.specs.Starts.{layout_of};
 ghost use Rattle.rl_runs.specs.State.{start_word, start_words, start_mind};
 ghost use Rattle.rl_core.specs.Starts.{AreStartMinds};
 
-use crate::watches::Watch;
+use crate::watches::{Rare, Watch};
 use rl_base::{NoMemory, NodeKind, NodeNo, WordNo};
 use rl_box::BoxMind;
 use rl_runs::{Mind, numbered};
@@ -66,9 +66,9 @@ pub(crate) fn start_minds(alloc: Global, line: &Line, tries: u32) -> Result<Vec<
 
 /// A watch for each node: at the start every node has to look closely.
 pub(crate) fn no_watches(alloc: Global, line: &Line) -> Result<Vec<Watch>, NoMemory>
-    ensures { IfOk result (λ xs. xs.items ≡ replicate (node_count (layout_of line.now)) Watch.Closely) }
+    ensures { IfOk result (λ xs. xs.items ≡ replicate (node_count (layout_of line.now)) (Watch.Rarely Rare.Closely)) }
 {
-    Ok(vec![in alloc; Watch::Closely; line.layout().nodes() as usize]?)
+    Ok(vec![in alloc; Watch::Rarely(Rare::Closely); line.layout().nodes() as usize]?)
 }
 
 /// A zero for each node, for clocks and scan places.

@@ -6,13 +6,13 @@ ghost use Rattle.rl_runs.specs.Numbers.{node_at};
 ghost use Rattle.rl_runs.specs.Step.{has_nothing, is_ready};
 ghost use Rattle.rl_runs.specs.Turn.{Drive, turn_of, answer_of};
 ghost use Rattle.rl_core.specs.Cores.{state_of, LeadsTo};
-ghost use Rattle.rl_core.specs.Looks.{IsWho, IsLook, look_of, ready_of, after_look, answer_to};
+ghost use Rattle.rl_core.specs.Looks.{IsWho, IsLook, IsNext, look_of, ready_of, after_look, answer_to};
 ghost use Rattle.rl_core.specs.Made.{advanced};
 ghost use Rattle.rl_core.specs.Watches.{waits_of};
 
 use crate::cores::Core;
 use crate::look::{Glance, Look, Who};
-use crate::watches::Watch;
+use crate::watches::{Rare, Watch};
 use rl_base::{BoxId, NodeKind, NodeNo, TrainId};
 use rl_box::{BoxMind, Work};
 use rl_record::Turn;
@@ -182,19 +182,22 @@ impl<'a> Core<'a> {
     #[inline(always)]
     fn pass(&mut self, node: NodeNo, glance: Glance) -> Turn
         requires there { node.0 < node_count (layout_of self.old.line) }
+        requires next { IsNext self.old.line (slice_index_or self.old.scans node.0 0) glance }
         ensures core { self.new ≡ (if ready_of glance then advanced self.old node.0 else self.old) }
         ensures answer { result ≡ answer_to self.old node.0 (look_of glance) }
     {
+        self.reached();
         match glance {
             Glance::Rests => Turn::Rest,
-            Glance::Idles(_, was, scans) => {
-                self.go_on(node, scans);
+            Glance::Idles(_, was) => Turn::Idle(was),
+            Glance::Scans(_, was, next) => {
+                self.put_scan(node, next);
                 Turn::Idle(was)
             }
         }
     }
 
-    /// What a node sees that has no step is kept of it.
+    /// Keeps what a node sees that has no step.
     fn keep_look(&mut self, node: NodeNo, look: Look)
         requires there { node.0 < node_count (layout_of self.old.line) }
         requires few { self.old.events < 4294967295 }
@@ -204,7 +207,7 @@ impl<'a> Core<'a> {
     {
         self.sound();
         match look {
-            Look::Rests => self.keep(node, Watch::Rests),
+            Look::Rests => self.keep(node, Watch::Rarely(Rare::Rests)),
             Look::Idles(w, was) => self.keep(node, Watch::At(w, was)),
             Look::Steps(_, _, _, _) => {}
         }
@@ -223,7 +226,7 @@ impl<'a> Core<'a> {
         self.make(node, look)
     }
 
-    /// What is kept of a box that is ready.
+    /// Keeps of a box that it is ready, where it is.
     fn keep_scanning(&mut self, node: NodeNo, b: BoxId, ready: bool, waits: bool)
         requires there { node.0 < node_count (layout_of self.old.line) }
         requires at { node_at (layout_of self.old.line) node.0 ≡ Some (nodes.Box b) }
@@ -232,7 +235,11 @@ impl<'a> Core<'a> {
         ensures { self.new ≡ self.old }
     {
         if ready {
-            self.keep(node, Watch::Scans(b, waits));
+            if waits {
+                self.keep(node, Watch::Rarely(Rare::Awaits(b)));
+            } else {
+                self.keep(node, Watch::Scans(b));
+            }
         }
     }
 
