@@ -18,7 +18,7 @@ use Rattle.rl_runs.specs.Run.{state}
 use Rattle.rl_runs.specs.Turn.{Drive, turn_of, answer_of, answer_at, events_with, answer_of_target, events_of_target, target_in}
 use Rattle.rl_safety.specs.Moves.{moves_of}
 use Rattle.rl_core.specs.Cores.{Core, LeadsTo, IsReached}
-use Rattle.rl_schedule.specs.Driven.{IsDriven, IsPartlyDriven, GoesOn, BreaksOff, IsOnLine, move_in}
+use Rattle.rl_schedule.specs.Driven.{Leads, IsDriven, IsPartlyDriven, GoesOn, BreaksOff, IsOnLine, move_in}
 
 -- the moves that a turn adds
 moves_with : (tables : Tables) (c : CoreState) (events : List Event) (w : ℕ) (o : Option Event)
@@ -74,6 +74,19 @@ on_line core new n turn line reached answer kept is =
     rw (is, kept, answer d reached.leads)
     (on_line_at core.line (state core.line core.tries d.events) n (target_in core.line (state core.line core.tries d.events) d n) words)
 
+-- a turn after those that lead to the core
+leads_on : {from core new : Core} (before : List ℕ) (n : ℕ) → ((d : Drive) → LeadsTo d core → LeadsTo (turn_of core.line core.tries d n) new)
+    → new.line ≡ core.line → new.tries ≡ core.tries → Leads from before core → Leads from (before ++ n ∷ []) new
+leads_on {from = from} before n turned line tries was =
+    record {
+      line = line ∙ was.line;
+      tries = tries ∙ was.tries;
+      drives = λ d leads.
+          let there = was.drives d leads in
+          let next = turned (fold (turn_of from.line from.tries) d before) there in
+          rw (fold-append (turn_of from.line from.tries) d before (n ∷ [])) (rw (was.line, was.tries) at next);
+    }
+
 -- by a turn
 pub goes_turn : (core new : Core) (n : ℕ) (turn : Turn) (moves : List Move) → IsReached core
     → ((d : Drive) → LeadsTo d core → LeadsTo (turn_of core.line core.tries d n) new)
@@ -89,14 +102,7 @@ goes_turn core new n turn moves reached turned answer line tries =
           let now : new.events ≡ length (turn_of core.line core.tries d n).events = (turned d reached.leads).events in
           omega arith;
       on = λ from before driven. record {
-        leads = record {
-          line = line ∙ driven.leads.line;
-          tries = tries ∙ driven.leads.tries;
-          drives = λ d leads.
-              let there = driven.leads.drives d leads in
-              let next = turned (fold (turn_of from.line from.tries) d before) there in
-              rw (fold-append (turn_of from.line from.tries) d before (n ∷ [])) (rw (driven.leads.line, driven.leads.tries) at next);
-        };
+        leads = leads_on before n turned line tries driven.leads;
         makes = λ d leads.
             let there = driven.leads.drives d leads in
             let end = fold (turn_of from.line from.tries) d before in
@@ -123,14 +129,7 @@ goes_passed core new n moves reached turned quiet line tries =
           let now : new.events ≡ length (turn_of core.line core.tries d n).events = (turned d reached.leads).events in
           omega arith;
       on = λ from before driven. record {
-        leads = record {
-          line = line ∙ driven.leads.line;
-          tries = tries ∙ driven.leads.tries;
-          drives = λ d leads.
-              let there = driven.leads.drives d leads in
-              let next = turned (fold (turn_of from.line from.tries) d before) there in
-              rw (fold-append (turn_of from.line from.tries) d before (n ∷ [])) (rw (driven.leads.line, driven.leads.tries) at next);
-        };
+        leads = leads_on before n turned line tries driven.leads;
         makes = λ d leads.
             let end = fold (turn_of from.line from.tries) d before in
             let same : (turn_of from.line from.tries end n).events ≡ end.events =
