@@ -7,5 +7,4 @@ pub mod Watching
 pub mod Counting
 pub mod Fates
 pub mod CoreWorlds
-pub mod Acting
 pub mod Replaying

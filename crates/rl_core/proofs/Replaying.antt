@@ -55,7 +55,7 @@ use Rattle.rl_core.specs.Redoing.{Makes}
 use Rattle.rl_core.specs.Replays.{replayed, before, IsFirstMisfit}
 use Rattle.rl_core.proofs.Started.{past}
 use Rattle.rl_core.proofs.Onward.{fits_state, leads_on}
-use Rattle.rl_core.proofs.Acting.{step_node}
+use Rattle.rl_runs.proofs.Acting.{step_node}
 
 -- an event fits exactly where its node makes it
 step_within : (core : Core) (n w payload : ℕ) (mind : Mind) (r : ℕ × Mind) → node_step core.line n mind w payload ≡ Some r

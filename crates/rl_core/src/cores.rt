@@ -11,11 +11,11 @@ ghost use Rattle.rl_core.specs.Cores.{state_of, LeadsTo, HasSizes, IsReached};
 ghost use Rattle.rl_core.specs.Made.{event_in, put_in, made, advanced};
 ghost use Rattle.rl_core.specs.Watches.{IsWatch};
 
-use crate::starts::{no_watches, start_minds, start_words, zeros};
+use crate::starts::{no_watches, start_minds, zeros};
 use crate::watches::{Rare, Watch};
 use rl_base::{NoMemory, NodeNo, WordNo};
 use rl_record::Event;
-use rl_runs::{Mind, sound_runs};
+use rl_runs::{Mind, sound_runs, start_words};
 use rl_tables::Line;
 use rl_words::{stamp_of, word_of};
 use std::alloc::Global;

@@ -1,2 +1,1 @@
-mod Acting
 mod Finding

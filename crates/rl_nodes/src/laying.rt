@@ -1,39 +1,21 @@
 ghost use Rattle.std.specs.Prelude.{◌≡◌, ◌<◌, ◌≤◌, IfOk};
 ghost use Rattle.rl_base.specs.Layout.{node_count};
 ghost use Rattle.rl_tables.specs.Starts.{layout_of};
-ghost use Rattle.rl_runs.specs.State.{start_mind};
 ghost use Rattle.rl_rule.specs.Loads.{most_of_node};
 ghost use Rattle.rl_rule.specs.Seats.{line_of, tries_of, walk_of};
 ghost use Rattle.rl_nodes.specs.Nodes.{AreNodesOf};
 ghost use Rattle.rl_nodes.specs.Laying.{AreSeatsOf, AreStartNodes, AreLaid, IsStartSeat, start_node};
 
 use crate::nodes::{Nodes, RunNode};
-use rl_base::{NoMemory, NodeKind, NodeNo, Sequence};
-use rl_box::BoxMind;
+use rl_base::{NoMemory, Sequence};
 use rl_minds::kept_minds;
 use rl_record::Record;
 use rl_rule::{NodeSeat, Rails};
-use rl_runs::{Mind, numbered};
+use rl_runs::start_mind;
 use rl_tables::Line;
-use rl_track::{MachineMind, TrackMind};
-use rl_train::TrainMind;
 use std::alloc::Global;
 
 pub type Seats = Sequence<NodeSeat>;
-
-/// The mind of the node at the start.
-fn start_mind(line: &Line, n: NodeNo, tries: u32) -> Mind
-    requires { n.0 < node_count (layout_of line.now) }
-    ensures { result ≡ start_mind line.now tries n.0 }
-{
-    numbered();
-    match line.layout().node_kind(n) {
-        NodeKind::Train(_) => Mind::Train(TrainMind::start(tries)),
-        NodeKind::Track(_) => Mind::Track(TrackMind::start()),
-        NodeKind::Box(_) => Mind::Box(BoxMind::start()),
-        NodeKind::Machine(_) => Mind::Machine(MachineMind),
-    }
-}
 
 /// A node at the start, at its seat.
 fn lay_node<'a>(
@@ -53,7 +35,7 @@ fn lay_node<'a>(
     ensures { result ≡ start_node rails.now events (walk_of seat).node.0 }
 {
     kept_minds();
-    let mind = start_mind(line, seat.node(), tries);
+    let mind = start_mind(line, tries, seat.node());
     RunNode {
         rails,
         line,

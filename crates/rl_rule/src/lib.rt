@@ -11,7 +11,6 @@ pub mod plays;
 pub mod rails;
 pub mod rule;
 pub mod seats;
-mod starts;
 #[cfg(test)]
 mod tests;
 pub mod views;

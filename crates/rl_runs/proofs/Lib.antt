@@ -1,6 +1,7 @@
 pub mod Numbering
 pub mod Options
 pub mod ByKind
+pub mod Acting
 pub mod Acts
 pub mod Starts
 pub mod Made

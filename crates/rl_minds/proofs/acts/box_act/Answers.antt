@@ -8,7 +8,7 @@ use Rattle.rl_tables.specs.Starts.{layout_of}
 use Rattle.rl_runs.specs.declared.mind.Mind.TheVariants.{Train, Track, Box, Machine}
 use Rattle.rl_runs.specs.Step.{as_mind, node_step}
 use Rattle.rl_box.specs.Steps.{box_step}
-use Rattle.rl_minds.proofs.Acting.{box_on}
+use Rattle.rl_runs.proofs.Acting.{box_on}
 use Rattle.rl_minds.proofs.acts.box_act.Goals as goal
 
 pub act-requires-clause-mind : goal.act-requires-clause-mind

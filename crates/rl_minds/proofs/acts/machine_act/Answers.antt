@@ -11,7 +11,7 @@ use Rattle.rl_runs.specs.Step.{as_mind, node_step}
 use Rattle.rl_base.specs.declared.layout.NodeKind.TheVariants as nodes
 use Rattle.rl_track.specs.Machine.{machine_target, machine_step}
 use Rattle.rl_runs.proofs.Acts.{machine_acts}
-use Rattle.rl_minds.proofs.Acting.{machine_elsewhere}
+use Rattle.rl_runs.proofs.Acting.{machine_elsewhere}
 use Rattle.rl_minds.proofs.acts.machine_act.Goals as goal
 
 pub returns-then-ne : goal.returns-then-ne

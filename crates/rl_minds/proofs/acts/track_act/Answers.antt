@@ -11,7 +11,7 @@ use Rattle.rl_runs.specs.Step.{as_mind, node_step}
 use Rattle.rl_base.specs.declared.layout.NodeKind.TheVariants as nodes
 use Rattle.rl_track.specs.Track.{track_target, track_step}
 use Rattle.rl_runs.proofs.Acts.{track_acts}
-use Rattle.rl_minds.proofs.Acting.{track_elsewhere}
+use Rattle.rl_runs.proofs.Acting.{track_elsewhere}
 use Rattle.rl_minds.proofs.acts.track_act.Goals as goal
 
 pub act-requires : goal.act-requires

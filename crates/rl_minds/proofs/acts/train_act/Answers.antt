@@ -11,7 +11,7 @@ use Rattle.rl_runs.specs.Step.{as_mind, node_step}
 use Rattle.rl_train.specs.Kept.{IsTrainOn}
 use Rattle.rl_train.specs.Steps.{train_target, train_step}
 use Rattle.rl_runs.proofs.Acts.{train_number, train_acts}
-use Rattle.rl_minds.proofs.Acting.{train_elsewhere}
+use Rattle.rl_runs.proofs.Acting.{train_elsewhere}
 use Rattle.rl_minds.proofs.acts.train_act.Goals as goal
 
 pub target-requires-clause-there : goal.target-requires-clause-there

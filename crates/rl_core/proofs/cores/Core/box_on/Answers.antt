@@ -7,7 +7,7 @@ use Rattle.rl_runs.specs.declared.mind.Mind.TheVariants.{Box}
 use Rattle.rl_runs.specs.Step.{as_mind}
 use Rattle.rl_core.specs.Cores.{state_of}
 use Rattle.rl_box.specs.Steps.{box_step}
-use Rattle.rl_core.proofs.Acting.{box_on}
+use Rattle.rl_runs.proofs.Acting.{box_on}
 use Rattle.rl_core.proofs.Looking.{box_sound}
 use Rattle.rl_core.proofs.cores.Core.box_on.Goals as goal
 

@@ -9,7 +9,7 @@ use Rattle.rl_runs.specs.Step.{as_mind}
 use Rattle.rl_base.specs.declared.layout.NodeKind.TheVariants as nodes
 use Rattle.rl_track.specs.Machine.{machine_target, machine_step}
 use Rattle.rl_runs.proofs.Acts.{machine_acts}
-use Rattle.rl_core.proofs.Acting.{machine_elsewhere}
+use Rattle.rl_runs.proofs.Acting.{machine_elsewhere}
 use Rattle.rl_core.proofs.cores.Core.machine_on.Goals as goal
 
 pub returns-then-ne : goal.returns-then-ne

@@ -6,7 +6,7 @@ use Rattle.rl_core.proofs.cores.Core.new.Goals as goal
 
 pub invariant_of-result : goal.invariant_of-result
 invariant_of-result c = (
-  rw (c.in_ok-words.ensures, c.in_ok-clocks.ensures, c.in_ok-scans.ensures) record {
+  rw (c.in_ok-words.ensures.words, c.in_ok-clocks.ensures, c.in_ok-scans.ensures) record {
     drive = start_drive;
     leads = start_leads c.args.line.now c.args.tries c.in_ok-minds.minds.items c.in_ok-minds.ensures.minds;
     places = λ n there. omega arith;
@@ -20,5 +20,5 @@ invariant_of-result c = (
 
 pub returns-clause-start : goal.returns-clause-start
 returns-clause-start c =
-    rw (c.in_ok-words.ensures, c.in_ok-clocks.ensures, c.in_ok-scans.ensures)
+    rw (c.in_ok-words.ensures.words, c.in_ok-clocks.ensures, c.in_ok-scans.ensures)
     (start_leads c.args.line.now c.args.tries c.in_ok-minds.minds.items c.in_ok-minds.ensures.minds)

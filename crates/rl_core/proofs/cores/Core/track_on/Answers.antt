@@ -10,7 +10,7 @@ use Rattle.rl_core.specs.Cores.{state_of}
 use Rattle.rl_base.specs.declared.layout.NodeKind.TheVariants as nodes
 use Rattle.rl_track.specs.Track.{track_target, track_step}
 use Rattle.rl_runs.proofs.Acts.{track_acts}
-use Rattle.rl_core.proofs.Acting.{track_elsewhere}
+use Rattle.rl_runs.proofs.Acting.{track_elsewhere}
 use Rattle.rl_core.proofs.Looking.{track_sound}
 use Rattle.rl_core.proofs.cores.Core.track_on.Goals as goal
 

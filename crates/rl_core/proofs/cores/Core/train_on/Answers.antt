@@ -11,7 +11,7 @@ use Rattle.rl_core.specs.Cores.{state_of}
 use Rattle.rl_train.specs.Kept.{IsTrainOn}
 use Rattle.rl_train.specs.Steps.{train_target, train_step}
 use Rattle.rl_runs.proofs.Acts.{train_number, train_acts}
-use Rattle.rl_core.proofs.Acting.{train_elsewhere}
+use Rattle.rl_runs.proofs.Acting.{train_elsewhere}
 use Rattle.rl_core.proofs.Looking.{train_sound}
 use Rattle.rl_core.proofs.cores.Core.train_on.Goals as goal
 

@@ -6,9 +6,9 @@ use Rattle.rl_core.proofs.cores.Core.turn_closely.Goals as goal
 
 pub returns-in-Train : goal.returns-in-Train
 returns-in-Train c =
-    let done = turned_by c.args.self.now c.make_and_keep.new.self c.make_and_keep.new.self c.args.node.0 c.look_train-look.result false c.make_and_keep.result c.reached.ensures.sizes
-    c.requires.there (c.look_train-look.ensures (slice_index_or c.args.self.now.scans c.args.node.0 0)) c.make_and_keep.ensures.core
-    (sym (ap is_ready c.in-Train.ensures.1)) refl c.make_and_keep.ensures.answer in
+    let done = turned_by c.args.self.now c.make_and_keep.new.self c.make_and_keep.new.self c.args.node.0 c.look_train-look.result false
+    c.make_and_keep.result c.reached.ensures.sizes c.requires.there (c.look_train-look.ensures (slice_index_or c.args.self.now.scans c.args.node.0 0))
+    c.make_and_keep.ensures.core (sym (ap is_ready c.in-Train.ensures.1)) refl c.make_and_keep.ensures.answer in
     record { turned = done.turned; answer = done.answer_is; line = done.line; tries = done.tries; events = done.events }
 
 pub returns-in-Track : goal.returns-in-Track
