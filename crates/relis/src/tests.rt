@@ -10,6 +10,7 @@ use super::*;
 use rl_base::{Args, Text};
 use rl_outside::{MemFiles, MemSink};
 use std::alloc::Global;
+use std::process::Abort;
 use std::test::Fail;
 
 /// A line of two segments, W, A, J1, B, E, and no train.
@@ -122,6 +123,17 @@ box = [
 train = [{ name = "T1", route = ["A", "J2", "B"] }]
 "#;
 
+/// Two tracks in a line, a train on the first, and one on the second, where the first wants to go.
+const OCCUPIED: &str = r#"format = 1
+segments = ["A", "B"]
+box = [
+  { name = "W", kind = "buffer", arms = ["A"] },
+  { name = "J1", kind = "joint", arms = ["A", "B"] },
+  { name = "E", kind = "buffer", arms = ["B"] },
+]
+train = [{ name = "T1", route = ["A", "J1", "B"] }, { name = "T2", route = ["B"] }]
+"#;
+
 /// A tram terminus: two platforms at each end, a passing loop between them, and four trams.
 const TERMINUS: &str = r#"format = 1
 segments = ["plat1", "plat2", "west", "mid", "up", "down", "east", "plat3", "plat4"]
@@ -183,15 +195,54 @@ train T2 arrived 0 0
 end
 "#;
 
-/// The line of one train, and a second one that stands where it wants to go.
-fn occupied(alloc: Global) -> Result<String, Fail> {
-    Ok(format!(in alloc; "{STRAIGHT}[[train]]\nname = \"T2\"\nroute = [\"B\"]\n")?)
+/// The network of this name.
+fn named(name: &str) -> &'static str {
+    match name.as_bytes() {
+        b"track" => TRACK,
+        b"straight" => STRAIGHT,
+        b"occupied" => OCCUPIED,
+        b"fork" => FORK,
+        b"crossing" => CROSSING,
+        b"head-on" => HEAD_ON,
+        b"two-wishes" => TWO_WISHES,
+        b"ring" => RING,
+        b"terminus" => TERMINUS,
+        _ => "format = 1\n",
+    }
 }
 
-/// The network text with the first `old` in it replaced.
-fn changed(alloc: Global, net: &str, old: &str, new: &str) -> Result<String, Fail> {
-    let (front, back) = net.split_once(old).ok_or("the text isn't there")?;
+/// The text, in which `~` is the end of a line.
+fn text_of(alloc: Global, short: &str) -> Result<String, Fail> {
+    let mut text = String::new(alloc);
+    for (i, line) in short.split('~').enumerate() {
+        if 0 < i {
+            text.push_str("\n")?;
+        }
+        text.push_str(line)?;
+    }
+    Ok(text)
+}
+
+/// The text with the first `old` in it replaced.
+fn changed(alloc: Global, text: &str, old: &str, new: &str) -> Result<String, Fail> {
+    let (front, back) = text.split_once(old).ok_or("the text isn't there")?;
     Ok(format!(in alloc; "{front}{new}{back}")?)
+}
+
+/// The text with a change in it, as the tables of the tests have it: what is replaced, and by what.
+fn with_change(alloc: Global, text: &str, change: &str) -> Result<String, Fail> {
+    let (old, new) = change.split_once(" => ").ok_or("no change")?;
+    let old = text_of(alloc, old)?;
+    let new = text_of(alloc, new)?;
+    changed(alloc, text, old.as_str(), new.as_str())
+}
+
+/// The network that a table names, or one with a change in it, after a stroke.
+fn network(alloc: Global, short: &str) -> Result<String, Fail> {
+    match short.split_once(" | ") {
+        Some((name, change)) => with_change(alloc, named(name), change),
+        None => Ok(named(short).to_string(alloc)?),
+    }
 }
 
 /// A sink that takes the whole text in one put.
@@ -199,36 +250,78 @@ fn wide_sink(alloc: Global) -> Result<MemSink, Fail> {
     Ok(MemSink::new(alloc, 100_000, 100_000, &[])?)
 }
 
-fn args_of(alloc: Global, words: &[&str]) -> Result<Args, Fail> {
+/// The words of a line. `''` is the empty word.
+fn args_of(alloc: Global, line: &str) -> Result<Args, Fail> {
     let mut args = Args::new(alloc);
-    for word in words {
-        args.push(Text::of(alloc, word)?)?;
+    for word in line.split(' ') {
+        if word == "''" {
+            args.push(Text::of(alloc, "")?)?;
+        } else if !word.is_empty() {
+            args.push(Text::of(alloc, word)?)?;
+        }
     }
     Ok(args)
 }
 
-/// The status and the text of these words, where files with these bytes lie under their names.
-fn answer_with(
-    alloc: Global,
-    named: &[(&str, &[u8])],
-    words: &[&str],
-) -> Result<(Status, Vec<u8>), Fail> {
-    let args = args_of(alloc, words)?;
+/// Files with these bytes under their names.
+fn files_of(alloc: Global, named: &[(&str, &[u8])]) -> Result<MemFiles, Fail> {
     let mut files = MemFiles::new(alloc, &[])?;
     for (name, bytes) in named {
         files.add(name, bytes)?;
     }
+    Ok(files)
+}
+
+/// The status and the text of these words.
+fn ended(alloc: Global, args: &Args, files: &mut MemFiles) -> Result<(Status, Vec<u8>), Fail> {
     let mut out = wide_sink(alloc)?;
-    let status = relis_plain(alloc, &args, &mut files, &mut out);
+    let status = relis_plain(alloc, args, files, &mut out);
     Ok((status, Vec::from_slice(alloc, out.bytes())?))
 }
 
-/// The status and the text of these words, where the network text lies under the name `NET`.
-fn answer(alloc: Global, net: &str, words: &[&str]) -> Result<(Status, Vec<u8>), Fail> {
-    answer_on(alloc, net.as_bytes(), words)
+/// The status and the text of the command line, where files with these bytes lie under their names.
+fn answer_with(
+    alloc: Global,
+    named: &[(&str, &[u8])],
+    line: &str,
+) -> Result<(Status, Vec<u8>), Fail> {
+    let args = args_of(alloc, line)?;
+    let mut files = files_of(alloc, named)?;
+    ended(alloc, &args, &mut files)
 }
 
-/// The status and the text of these words, where these bytes lie under the name `NET`.
-fn answer_on(alloc: Global, net: &[u8], words: &[&str]) -> Result<(Status, Vec<u8>), Fail> {
-    answer_with(alloc, [("NET", net)].as_slice(), words)
+/// The status and the text of the command line, where the network text lies under the name `NET`.
+fn answer(alloc: Global, net: &[u8], line: &str) -> Result<(Status, Vec<u8>), Fail> {
+    answer_with(alloc, [("NET", net)].as_slice(), line)
+}
+
+/// Asserts that the command line ends with this number on the network text, and writes this text.
+fn assert_answer(
+    rt: &impl Abort,
+    alloc: Global,
+    net: &[u8],
+    line: &str,
+    number: u8,
+    text: &str,
+) -> Result<(), Fail> {
+    let (status, written) = answer(alloc, net, line)?;
+    assert_eq!(rt; status.number(), number, "{text}");
+    assert_eq!(rt; written.as_slice(), text.as_bytes(), "{text}");
+    Ok(())
+}
+
+/// Asserts the same where a second file lies beside the network.
+fn assert_answer_beside(
+    rt: &impl Abort,
+    alloc: Global,
+    net: &[u8],
+    file: (&str, &[u8]),
+    line: &str,
+    number: u8,
+    text: &str,
+) -> Result<(), Fail> {
+    let (status, written) = answer_with(alloc, [("NET", net), file].as_slice(), line)?;
+    assert_eq!(rt; status.number(), number, "{text}");
+    assert_eq!(rt; written.as_slice(), text.as_bytes(), "{text}");
+    Ok(())
 }

@@ -15,6 +15,3 @@ mod verdict;
 pub use auditing::audit;
 pub use rl_report::ReportRefusal;
 pub use verdict::Verdict;
-
-#[cfg(test)]
-mod tests;

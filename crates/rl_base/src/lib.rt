@@ -15,8 +15,6 @@ pub mod memory;
 pub mod name;
 pub mod place;
 pub mod sequence;
-#[cfg(test)]
-mod tests;
 pub mod text;
 
 pub use draft::{Draft, DraftBox, DraftBoxes, DraftTrain, DraftTrains};

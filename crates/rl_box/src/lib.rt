@@ -13,6 +13,3 @@ mod steps;
 
 pub use laws::{box_glances, box_lines, box_steps};
 pub use mind::{Answer, BoxMind, Work};
-
-#[cfg(test)]
-mod tests;

@@ -13,8 +13,6 @@ mod matches;
 mod order;
 mod orders;
 mod parser;
-#[cfg(test)]
-mod tests;
 mod written;
 
 pub use fault::CliFault;

@@ -9,6 +9,3 @@ pub mod station;
 pub mod train;
 
 pub use ring::make_draft;
-
-#[cfg(test)]
-mod tests;

@@ -86,6 +86,3 @@ pub fn check(alloc: Global, draft: Draft) -> Result<Network, NetRefusal>
     accepted_networks();
     Ok(Network::from_plan(plan, names))
 }
-
-#[cfg(test)]
-mod tests;

@@ -16,8 +16,6 @@ pub mod parts;
 pub mod rooms;
 mod scan;
 pub mod seating;
-#[cfg(test)]
-mod tests;
 
 pub use finishing::{Finished, Minds, finish};
 pub use laws::{kept_nodes, parts_at_rest, replaced_all, topped_up_nodes};

@@ -8,8 +8,6 @@ pub mod event;
 pub mod laws;
 pub mod merging;
 pub mod record;
-#[cfg(test)]
-mod tests;
 
 pub use event::{Event, Events, Turn};
 pub use laws::{histories_of_records, one_merge, records_by_node};

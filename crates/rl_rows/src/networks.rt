@@ -27,6 +27,20 @@ box = [
 train = [{ name = "T1", route = ["A", "J1", "B"] }, { name = "T2", route = ["B"] }]
 "#;
 
+/// Two lines that have nothing in common, each with a train.
+pub(crate) const TWO_LINES: &str = r#"format = 1
+segments = ["A", "B", "C", "D"]
+box = [
+  { name = "W1", kind = "buffer", arms = ["A"] },
+  { name = "J1", kind = "joint", arms = ["A", "B"] },
+  { name = "E1", kind = "buffer", arms = ["B"] },
+  { name = "W2", kind = "buffer", arms = ["C"] },
+  { name = "J2", kind = "joint", arms = ["C", "D"] },
+  { name = "E2", kind = "buffer", arms = ["D"] },
+]
+train = [{ name = "T1", route = ["A", "J1", "B"] }, { name = "T2", route = ["C", "J2", "D"] }]
+"#;
+
 /// A point that stands at left, and a train that goes right.
 pub(crate) const FORK: &str = r#"format = 1
 segments = ["S", "L", "R"]

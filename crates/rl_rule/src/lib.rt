@@ -11,8 +11,6 @@ pub mod plays;
 pub mod rails;
 pub mod rule;
 pub mod seats;
-#[cfg(test)]
-mod tests;
 pub mod views;
 
 pub use laws::{alone_with_reservations, rule_of_rails};

@@ -5,8 +5,6 @@
 #![tactic(auto)]
 
 mod abreast;
-#[cfg(test)]
-mod tests;
 pub mod turner;
 pub mod work;
 

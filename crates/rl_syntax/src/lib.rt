@@ -13,8 +13,6 @@ mod names;
 mod reading;
 mod refusal;
 mod table;
-#[cfg(test)]
-mod tests;
 mod trains;
 mod words;
 mod writing;

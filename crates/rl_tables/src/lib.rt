@@ -18,6 +18,3 @@ pub use laws::tables_of_networks;
 pub use line::Line;
 pub use table::{BoxTable, BoxTables, StepRow, StepRows, Tables, TrainTable, TrainTables};
 pub use text::tables_text;
-
-#[cfg(test)]
-mod tests;

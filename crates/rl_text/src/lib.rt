@@ -14,6 +14,3 @@ pub use number::read_number;
 pub use output::Out;
 pub use tokens::{TextLine, Tokens};
 pub use words::word_at;
-
-#[cfg(test)]
-mod tests;

@@ -13,6 +13,3 @@ pub use laws::{
 };
 pub use machine::MachineMind;
 pub use track::{TrackMind, TrackPhase};
-
-#[cfg(test)]
-mod tests;

@@ -11,6 +11,3 @@ mod steps;
 
 pub use laws::{train_glances, train_lines, train_steps, usable_tables};
 pub use mind::TrainMind;
-
-#[cfg(test)]
-mod tests;

@@ -22,6 +22,3 @@ pub use resv::ResvWord;
 pub use run::RunWord;
 pub use sense::SenseWord;
 pub use stamp::{payload_of, stamp_of, word_of};
-
-#[cfg(test)]
-mod tests;

@@ -1,71 +1,89 @@
 //! The audit of reports.
 use super::*;
 
-fn audited(alloc: Global, net: &str, report: &str) -> Result<(Status, Vec<u8>), Fail> {
-    let files = [("NET", net.as_bytes()), ("REPORT", report.as_bytes())];
-    answer_with(alloc, files.as_slice(), &["audit", "NET", "REPORT"])
+/// Asserts how the audit of the report ends, and what it writes.
+fn assert_audit(
+    rt: &impl Abort,
+    alloc: Global,
+    net: &[u8],
+    report: &[u8],
+    number: u8,
+    text: &str,
+) -> Result<(), Fail> {
+    let file = ("REPORT", report);
+    assert_answer_beside(rt, alloc, net, file, "audit NET REPORT", number, text)
 }
 
-/// The report of the one step with one thing changed, and what is said of it.
+/// What is said of the report of the one step with one thing changed.
+const CHANGED_REPORTS: &str = "\
+not safe 5 19 <- lock T1 J1 A B~enter T1 J1 A B~ => enter T1 J1 A B~lock T1 J1 A B~
+not safe 5 18 <- reserve T1 B J1~reserve T1 B E~ => reserve T1 B J1~
+not safe 11 25 <- arrived 1 0 => arrived 1 1
+not safe 11 26 <- arrived 1 0 => spent 1 0
+refused 19 report:12 <- arrived 1 0~end~ => arrived 1 0~
+refused 19 report:12 <- end~ => end
+refused 19 report:12 <- end~ => end ~
+refused 19 report:3 <- reserve T1 B J1 => reserve T9 B J1
+";
+
+fn assert_changed(rt: &impl Abort, alloc: Global, case: &str) -> Result<(), Fail> {
+    let (want, change) = case.split_once(" <- ").ok_or("no change")?;
+    let number = if want.starts_with("refused") { 3 } else { 7 };
+    let report = with_change(alloc, ONE_STEP, change)?;
+    let text = format!(in alloc; "{want}\n")?;
+    let net = STRAIGHT.as_bytes();
+    assert_audit(rt, alloc, net, report.as_bytes(), number, text.as_str())
+}
+
 #[test]
 fn audits_changed_reports(rt: HostRuntime) -> Result<(), Fail> {
-    let alloc = rt.alloc();
-    for (old, new, number, text) in [
-        ("", "", 0, "safe moves 8\n"),
-        (
-            "lock T1 J1 A B\nenter T1 J1 A B\n",
-            "enter T1 J1 A B\nlock T1 J1 A B\n",
-            7,
-            "not safe 5 19\n",
-        ),
-        ("reserve T1 B E\n", "", 7, "not safe 5 18\n"),
-        ("arrived 1 0", "arrived 1 1", 7, "not safe 11 25\n"),
-        ("arrived 1 0", "spent 1 0", 7, "not safe 11 26\n"),
-        ("end\n", "", 3, "refused 19 report:12\n"),
-        ("end\n", "end \n", 3, "refused 19 report:12\n"),
-        (
-            "reserve T1 B J1",
-            "reserve T9 B J1",
-            3,
-            "refused 19 report:3\n",
-        ),
-        (ONE_STEP, "", 3, "refused 19 report:1\n"),
-    ] {
-        let report = changed(alloc, ONE_STEP, old, new)?;
-        let (status, written) = audited(alloc, STRAIGHT, report.as_str())?;
-        assert_eq!(rt; status.number(), number, "{report}");
-        assert_eq!(rt; written.as_slice(), text.as_bytes(), "{report}");
+    for case in CHANGED_REPORTS.lines() {
+        assert_changed(&rt, rt.alloc(), case)?;
     }
     Ok(())
 }
 
-/// A refusal that names the train itself as the one in its way.
+/// The report as it is, none at all, and a refusal that names the train itself as the one in its way.
 #[test]
-fn audits_refusals(rt: HostRuntime) -> Result<(), Fail> {
+fn audits_reports(rt: HostRuntime) -> Result<(), Fail> {
     let alloc = rt.alloc();
-    let net = occupied(alloc)?;
-    let report = changed(alloc, TWICE_REFUSED, "B J1 T2", "B J1 T1")?;
-    let (status, written) = audited(alloc, net.as_str(), report.as_str())?;
-    assert_eq!(rt; status, Status::NotSafe { line: 3, guard: 23 });
-    assert_eq!(rt; written.as_slice(), b"not safe 3 23\n".as_slice());
-    Ok(())
+    let net = STRAIGHT.as_bytes();
+    assert_audit(&rt, alloc, net, ONE_STEP.as_bytes(), 0, "safe moves 8\n")?;
+    assert_audit(&rt, alloc, net, b"", 3, "refused 19 report:1\n")?;
+    let own = "relis report 1\ntries 2\nrefuse T1 B J1 T1\nrefuse T1 B J1 T2\n\
+train T1 spent 0 2\ntrain T2 arrived 0 0\nend\n";
+    assert_audit(
+        &rt,
+        alloc,
+        OCCUPIED.as_bytes(),
+        own.as_bytes(),
+        7,
+        "not safe 3 23\n",
+    )
 }
 
-/// What `drive` prints is safe, with as many moves as it has lines of moves.
+/// Asserts that what is printed of a drive is safe, with as many moves as it has lines of moves. The others are its
+/// first two, its last, and one of each train.
+fn assert_safe_drive(rt: &impl Abort, alloc: Global, net: &str, others: usize) -> Result<(), Fail> {
+    let (_, report) = answer(alloc, net.as_bytes(), "drive NET 600 --tries 3")?;
+    let lines = report.iter().filter(|b| **b == b'\n').count();
+    let moves = lines.checked_sub(others).ok_or("too few lines")?;
+    let text = format!(in alloc; "safe moves {moves}\n")?;
+    assert_audit(
+        rt,
+        alloc,
+        net.as_bytes(),
+        report.as_slice(),
+        0,
+        text.as_str(),
+    )
+}
+
 #[test]
 fn audits_drives(rt: HostRuntime) -> Result<(), Fail> {
     let alloc = rt.alloc();
-    for (net, trains) in [(STRAIGHT, 1), (CROSSING, 2), (HEAD_ON, 2), (TERMINUS, 4)] {
-        let (status, report) = answer(alloc, net, &["drive", "NET", "600", "--tries", "3"])?;
-        assert_eq!(rt; status, Status::Done, "{net}");
-        let lines = report.iter().filter(|b| **b == b'\n').count();
-        assert!(rt; 3 + trains <= lines, "{net}");
-        let moves = lines - 3 - trains;
-        let files = [("NET", net.as_bytes()), ("REPORT", report.as_slice())];
-        let (status, written) = answer_with(alloc, files.as_slice(), &["audit", "NET", "REPORT"])?;
-        let text = format!(in alloc; "safe moves {moves}\n")?;
-        assert_eq!(rt; status, Status::Done, "{net}");
-        assert_eq!(rt; written.as_slice(), text.as_bytes(), "{net}");
-    }
-    Ok(())
+    assert_safe_drive(&rt, alloc, STRAIGHT, 4)?;
+    assert_safe_drive(&rt, alloc, CROSSING, 5)?;
+    assert_safe_drive(&rt, alloc, HEAD_ON, 5)?;
+    assert_safe_drive(&rt, alloc, TERMINUS, 7)
 }

@@ -5,18 +5,15 @@ use std::str;
 
 #[test]
 fn makes_one_station(rt: HostRuntime) -> Result<(), Fail> {
-    let (status, written) = answer(rt.alloc(), "", &["make", "1"])?;
     let text = "make 1 segments 4 boxes 3 trains 1\n\
 rounds 3900 moves 480 refused 0 arrived 1 spent 0 underway 0\n";
-    assert_eq!(rt; status, Status::Done);
-    assert_eq!(rt; written.as_slice(), text.as_bytes());
-    Ok(())
+    assert_answer(&rt, rt.alloc(), b"", "make 1", 0, text)
 }
 
 /// Of the largest ring the fates add up to its trains.
 #[test]
 fn makes_all_stations(rt: HostRuntime) -> Result<(), Fail> {
-    let (status, written) = answer(rt.alloc(), "", &["make", "32"])?;
+    let (status, written) = answer(rt.alloc(), b"", "make 32")?;
     assert_eq!(rt; status, Status::Done);
     let text = str::from_utf8(written.as_slice())?;
     let (first, second) = text.split_once('\n').ok_or("one line")?;

@@ -42,34 +42,31 @@ const ROOM: usize = 64;
 /// How often a node looks whether the other has come.
 const LOOKS: u32 = 100_000_000;
 
-/// The status and the text of these words, with any command, where files with these bytes lie under their names.
+/// The status and the text of the command line, with any command, where files with these bytes lie under their names.
 fn answer_of_all<R: Threads + Wait + Sync, G: Gate>(
     rt: &R,
     alloc: Global,
     named: &[(&str, &[u8])],
-    words: &[&str],
+    line: &str,
     gate: &G,
 ) -> Result<(Status, Vec<u8>), Fail> {
-    let args = args_of(alloc, words)?;
-    let mut files = MemFiles::new(alloc, &[])?;
-    for (name, bytes) in named {
-        files.add(name, bytes)?;
-    }
+    let args = args_of(alloc, line)?;
+    let mut files = files_of(alloc, named)?;
     let mut out = wide_sink(alloc)?;
     let status = relis(rt, alloc, &args, &mut files, &mut out, gate);
     Ok((status, Vec::from_slice(alloc, out.bytes())?))
 }
 
-/// Asserts that a run of the network with these words prints this text.
+/// Asserts that a run of the network by this command line prints this text.
 fn assert_run<R: Abort + Threads + Wait + Sync>(
     rt: &R,
     alloc: Global,
     net: &str,
-    words: &[&str],
+    line: &str,
     text: &str,
 ) -> Result<(), Fail> {
     let files = [("NET", net.as_bytes())];
-    let (status, written) = answer_of_all(rt, alloc, files.as_slice(), words, &OpenGate)?;
+    let (status, written) = answer_of_all(rt, alloc, files.as_slice(), line, &OpenGate)?;
     assert_eq!(rt; status, Status::Done, "{net}");
     assert_eq!(rt; written.as_slice(), text.as_bytes(), "{net}");
     Ok(())
@@ -80,21 +77,24 @@ fn assert_run<R: Abort + Threads + Wait + Sync>(
 fn runs_what_rests(rt: HostRuntime) -> Result<(), Fail> {
     let alloc = rt.alloc();
     let still = changed(alloc, STRAIGHT, r#"["A", "J1", "B"]"#, r#"["A"]"#)?;
-    let words = ["run", "NET"];
     let empty = "relis report 1\ntries 100\nend\n";
-    assert_run(&rt, alloc, "format = 1\n", words.as_slice(), empty)?;
+    assert_run(&rt, alloc, "format = 1\n", "run NET", empty)?;
     let arrived = "relis report 1\ntries 100\ntrain T1 arrived 0 0\nend\n";
-    assert_run(&rt, alloc, still.as_str(), words.as_slice(), arrived)
+    assert_run(&rt, alloc, still.as_str(), "run NET", arrived)
 }
 
 /// A network whose one train has one order of moves: each of them is a cause of the next.
 #[test]
 fn runs_to_rest(rt: HostRuntime) -> Result<(), Fail> {
     let alloc = rt.alloc();
-    let words = ["run", "NET", "--round", "1", "--workers", "3"];
-    assert_run(&rt, alloc, STRAIGHT, words.as_slice(), ONE_STEP)?;
-    let words = ["run", "NET"];
-    assert_run(&rt, alloc, STRAIGHT, words.as_slice(), ONE_STEP)
+    assert_run(
+        &rt,
+        alloc,
+        STRAIGHT,
+        "run NET --round 1 --workers 3",
+        ONE_STEP,
+    )?;
+    assert_run(&rt, alloc, STRAIGHT, "run NET", ONE_STEP)
 }
 
 /// A run with no attempt is no command.
@@ -102,14 +102,8 @@ fn runs_to_rest(rt: HostRuntime) -> Result<(), Fail> {
 fn runs_no_run_without_tries(rt: HostRuntime) -> Result<(), Fail> {
     let alloc = rt.alloc();
     let files = [("NET", STRAIGHT.as_bytes())];
-    let words = ["run", "NET", "--tries", "0"];
-    let (status, written) = answer_of_all(
-        &rt,
-        alloc,
-        files.as_slice(),
-        words.as_slice(),
-        &OpenGate,
-    )?;
+    let line = "run NET --tries 0";
+    let (status, written) = answer_of_all(&rt, alloc, files.as_slice(), line, &OpenGate)?;
     assert_eq!(rt; status.number(), 1);
     assert_eq!(rt;
         written.as_slice(),
@@ -128,14 +122,7 @@ fn count_lines(text: &str, start: &str) -> usize {
 fn audits_a_run(rt: HostRuntime) -> Result<(), Fail> {
     let alloc = rt.alloc();
     let files = [("NET", TERMINUS.as_bytes())];
-    let words = ["run", "NET"];
-    let (status, report) = answer_of_all(
-        &rt,
-        alloc,
-        files.as_slice(),
-        words.as_slice(),
-        &OpenGate,
-    )?;
+    let (status, report) = answer_of_all(&rt, alloc, files.as_slice(), "run NET", &OpenGate)?;
     assert_eq!(rt; status, Status::Done);
     let text = std::str::from_utf8(report.as_slice())?;
     assert_eq!(rt; count_lines(text, "train "), 4);
@@ -144,7 +131,7 @@ fn audits_a_run(rt: HostRuntime) -> Result<(), Fail> {
     assert!(rt; 7 <= lines);
     let moves = lines - 7;
     let files = [("NET", TERMINUS.as_bytes()), ("REPORT", report.as_slice())];
-    let (status, written) = answer_with(alloc, files.as_slice(), &["audit", "NET", "REPORT"])?;
+    let (status, written) = answer_with(alloc, files.as_slice(), "audit NET REPORT")?;
     let safe = format!(in alloc; "safe moves {moves}\n")?;
     assert_eq!(rt; status, Status::Done);
     assert_eq!(rt; written.as_slice(), safe.as_bytes());
@@ -158,9 +145,8 @@ fn terminus_run<R: Threads + Wait + Sync>(
     round: u32,
 ) -> Result<Vec<u8>, Fail> {
     let files = [("NET", TERMINUS.as_bytes())];
-    let turns = format!(in alloc; "{round}")?;
-    let words = ["run", "NET", "--workers", "2", "--round", turns.as_str()];
-    let (status, report) = answer_of_all(rt, alloc, files.as_slice(), words.as_slice(), &OpenGate)?;
+    let line = format!(in alloc; "run NET --workers 2 --round {round}")?;
+    let (status, report) = answer_of_all(rt, alloc, files.as_slice(), line.as_str(), &OpenGate)?;
     if status != Status::Done {
         return Err(Fail::from("the run is not done"));
     }
@@ -170,7 +156,7 @@ fn terminus_run<R: Threads + Wait + Sync>(
 /// Whether the audit calls the report of the terminus safe.
 fn is_safe(alloc: Global, report: &[u8]) -> Result<bool, Fail> {
     let files = [("NET", TERMINUS.as_bytes()), ("REPORT", report)];
-    let (status, _) = answer_with(alloc, files.as_slice(), &["audit", "NET", "REPORT"])?;
+    let (status, _) = answer_with(alloc, files.as_slice(), "audit NET REPORT")?;
     Ok(status == Status::Done)
 }
 
@@ -367,8 +353,8 @@ fn watched<R: Threads + Wait + Sync>(
     gate: &Meeting,
 ) -> Result<Vec<u8>, Fail> {
     let files = [("NET", TWO_LINES.as_bytes())];
-    let words = ["run", "NET", "--workers", "2"];
-    let (status, report) = answer_of_all(rt, alloc, files.as_slice(), words.as_slice(), gate)?;
+    let line = "run NET --workers 2";
+    let (status, report) = answer_of_all(rt, alloc, files.as_slice(), line, gate)?;
     if status != Status::Done {
         return Err(Fail::from("the run is not done"));
     }

@@ -1,6 +1,0 @@
-use Rattle.rl_box.specs.declared.tests.TheConstants.{LAYOUT, POINT}
-use Rattle.rl_box.specs.Mind.{IsBoxMind}
-use Rattle.rl_box.proofs.tests.serves_two_trains.Given as goal
-
-abbrev pub invariant-loop-w : goal.invariant-loop-w
-invariant-loop-w g l = IsBoxMind LAYOUT POINT l.mind

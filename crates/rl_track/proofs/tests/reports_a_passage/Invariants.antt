@@ -1,5 +1,0 @@
-use Rattle.rl_track.specs.Track.{IsTrackMind}
-use Rattle.rl_track.proofs.tests.reports_a_passage.Given as goal
-
-abbrev pub invariant-loop-payload : goal.invariant-loop-payload
-invariant-loop-payload g l = IsTrackMind l.mind
