@@ -49,15 +49,23 @@ place_of : List ℕ → Place
 place_of [] = place.None
 place_of (n ∷ []) =
     cond (eqb n 0) place.None
-    (cond (eqb n 1) place.Top (cond (eqb n 2) place.Format (cond (eqb n 3) place.Segments (cond (eqb n 4) place.Boxes place.Trains))))
+    (cond (eqb n 1) place.Top
+    (cond (eqb n 2) place.Format
+    (cond (eqb n 3) place.Segments (cond (eqb n 4) place.Segs (cond (eqb n 5) place.Boxes place.Trains)))))
 place_of (n ∷ i ∷ []) =
     cond (eqb n 3) (place.Segment i)
-    (cond (eqb n 4) (place.BoxItem i) (cond (eqb n 5) (place.TrainItem i) (cond (eqb n 6) (place.ScheduleLine i) (place.ReportLine i))))
+    (cond (eqb n 4) (place.SegItem i)
+    (cond (eqb n 5) (place.BoxItem i)
+    (cond (eqb n 6) (place.TrainItem i)
+    (cond (eqb n 7) (place.ScheduleLine i)
+    (cond (eqb n 8) (place.ReportLine i) (cond (eqb n 9) (place.FateLine i) (place.Word i)))))))
 place_of (n ∷ i ∷ m ∷ []) =
-    cond (eqb n 4)
+    cond (eqb n 4) (cond (eqb m 0) (place.SegName i) (place.SegEnds i))
+    (cond (eqb n 5)
     (cond (eqb m 0) (place.BoxName i) (cond (eqb m 1) (place.BoxKind i) (cond (eqb m 2) (place.BoxArms i) (place.BoxSide i))))
-    (cond (eqb m 0) (place.TrainName i) (place.TrainRoute i))
-place_of (n ∷ i ∷ m ∷ j ∷ rest) = cond (eqb n 4) (place.BoxArm i j) (place.RouteItem i j)
+    (cond (eqb m 0) (place.TrainName i) (place.TrainRoute i)))
+place_of (n ∷ i ∷ m ∷ j ∷ rest) =
+    cond (eqb n 4) (place.SegEnd i j) (cond (eqb n 5) (place.BoxArm i j) (place.RouteItem i j))
 
 -- each place is the one that has its key
 place_of-key : (p : Place) → place_of (place_key p) ≡ p
@@ -67,6 +75,11 @@ place_of-key place.Top = refl
 place_of-key place.Format = refl
 place_of-key place.Segments = refl
 place_of-key (place.Segment i) = refl
+place_of-key place.Segs = refl
+place_of-key (place.SegItem i) = refl
+place_of-key (place.SegName i) = refl
+place_of-key (place.SegEnds i) = refl
+place_of-key (place.SegEnd i j) = refl
 place_of-key place.Boxes = refl
 place_of-key (place.BoxItem i) = refl
 place_of-key (place.BoxName i) = refl
@@ -81,6 +94,8 @@ place_of-key (place.TrainRoute i) = refl
 place_of-key (place.RouteItem i j) = refl
 place_of-key (place.ScheduleLine n) = refl
 place_of-key (place.ReportLine n) = refl
+place_of-key (place.FateLine n) = refl
+place_of-key (place.Word n) = refl
 
 -- two places neither of which is after the other are the same
 pub IsNoLater-antisymmetric : (p q : Place) → IsNoLater p q → IsNoLater q p → p ≡ q

@@ -1,5 +1,7 @@
 pub mod Draft
 pub mod Kind
 pub mod Layout
+pub mod Lending
 pub mod Name
 pub mod Place
+pub mod Tries

@@ -45,6 +45,24 @@ pub const MAX_MOVES: usize = 1_000_000;
 /// The most bytes of the text of a report.
 pub const MAX_REPORT_BYTES: usize = 134_217_728;
 
+/// The most lines of a text of fates.
+pub const MAX_FATES: usize = 100_000;
+
+/// The most bytes of a text of fates.
+pub const MAX_FATES_BYTES: usize = 4_194_304;
+
+/// The most packets that a radio carries: fewer than this many are ever sent.
+pub const MAX_PACKETS: usize = 3_000_000;
+
+/// The most events of all nodes for one attempt of a train.
+pub const MAX_ATTEMPT_EVENTS: usize = 39;
+
+/// The most events of one node for one attempt of a train.
+pub const MAX_ATTEMPT_NODE_EVENTS: usize = 19;
+
+/// The most moves for one attempt of a train.
+pub const MAX_ATTEMPT_MOVES: usize = 10;
+
 /// The most events of the record of one node.
 pub const MAX_EVENTS: usize = 1_048_576;
 

@@ -1,5 +1,6 @@
-/// Where a refusal stands. An index counts segments, boxes, trains, arms or route places from 0, and a
-/// line number counts lines from 1, and is 0 where the whole text is meant.
+/// Where a refusal stands. An index counts segments, their ends, boxes, arms, trains or route places from 0, a
+/// word's number counts the words of the command line from 0, and a line number counts lines from 1, and is 0
+/// where the whole text is meant. `Segments` is the list of names of format 1, `Segs` the tables of format 2.
 #[derive(Clone, Copy, Debug, PartialEq, Eq)]
 pub enum Place {
     None,
@@ -7,6 +8,11 @@ pub enum Place {
     Format,
     Segments,
     Segment(u32),
+    Segs,
+    SegItem(u32),
+    SegName(u32),
+    SegEnds(u32),
+    SegEnd(u32, u32),
     Boxes,
     BoxItem(u32),
     BoxName(u32),
@@ -21,4 +27,6 @@ pub enum Place {
     RouteItem(u32, u32),
     ScheduleLine(u32),
     ReportLine(u32),
+    FateLine(u32),
+    Word(u32),
 }
