@@ -1,0 +1,6 @@
+pub mod Walks
+pub mod Levels
+pub mod Rising
+pub mod Plans
+pub mod Marking
+pub mod Searching

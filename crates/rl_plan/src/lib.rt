@@ -1,0 +1,16 @@
+//! Plans: the least number of steps from a segment to another, with a certificate that a reader can trust without
+//! the search.
+//!
+//! It gives upward: `least_plan`, the plan with the fewest steps, the same for the same network; `check_plan`, whether a
+//! plan shows that no walk is shorter; the text of a plan. It knows a network and its names, and nothing of trains
+//! that move.
+#![tactic(auto)]
+
+mod certificate;
+mod marking;
+mod neighbours;
+pub mod plan;
+mod search;
+
+pub use certificate::check_plan;
+pub use plan::{Levels, Plan, PlanStep, PlanSteps};
