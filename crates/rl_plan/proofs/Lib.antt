@@ -3,3 +3,7 @@ pub mod Shortest
 pub mod Around
 pub mod Marked
 pub mod Searched
+pub mod Lowest
+pub mod Chosen
+pub mod Downward
+pub mod Building

@@ -4,3 +4,4 @@ pub mod Rising
 pub mod Plans
 pub mod Marking
 pub mod Searching
+pub mod Choosing

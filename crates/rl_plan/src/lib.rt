@@ -7,10 +7,13 @@
 #![tactic(auto)]
 
 mod certificate;
+mod least;
 mod marking;
 mod neighbours;
 pub mod plan;
+mod route;
 mod search;
 
 pub use certificate::check_plan;
+pub use least::least_plan;
 pub use plan::{Levels, Plan, PlanStep, PlanSteps};

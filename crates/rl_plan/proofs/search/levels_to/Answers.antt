@@ -1,7 +1,7 @@
 use Rattle.std.proofs.Common.{ℕ, List, Option, length, ap, subst, sym, ◌∙◌}
 use Rattle.rl_plan.specs.Searching.{AreLevels}
 use Rattle.rl_plan.proofs.Searched.{put_back, found}
-use Rattle.rl_plan.proofs.search.levels.Goals as goal
+use Rattle.rl_plan.proofs.search.levels_to.Goals as goal
 
 pub returns : goal.returns
 returns c =
