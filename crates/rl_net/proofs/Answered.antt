@@ -1,11 +1,12 @@
 -- What the search finds is the first refusal by the plain sentence, and no other answer is right.
 use Rattle.std.proofs.Common.{◌≡◌, ℕ, cond, eqb, Option, Some, None, Result, Ok, Err, refl, sym, ap, ap₂, ◌∙◌}
+use Rattle.std.proofs.lemmas.Bool.{both_ways}
 use Rattle.std.specs.Prelude.{IfOk, OnOk, IfErr}
 use Rattle.rl_base.specs.declared.place.Place.{Place}
 use Rattle.rl_base.specs.declared.draft.Draft.{Draft}
 use Rattle.rl_model.specs.declared.network.NetworkPlan.{NetworkPlan}
 use Rattle.rl_drafts.specs.Drafts.{network_of}
-use Rattle.rl_drafts.specs.Refusals.{IsAccepted, IsFirstRefusal}
+use Rattle.rl_drafts.specs.Refusals.{breaks, IsAccepted, IsFirstRefusal}
 use Rattle.rl_drafts.specs.Search.{Refusal, first_refusal}
 use Rattle.rl_net.specs.declared.refusal.NetRefusal.{NetRefusal}
 use Rattle.rl_net.specs.declared.refusal.NetRefusal.TheVariants.{Count, Twice, ArmCount, NoSegment, SameBox, Ends, At, RouteShape, RouteName, RouteFit, StartShared, NoMemory}
@@ -27,6 +28,16 @@ pub is_refusal : (d : Draft) (answer : Result NetworkPlan NetRefusal) → ((r : 
     → IfErr answer (λ e. IsFound e (first_refusal d)) → IfErr answer (IsRefusal d)
 is_refusal d (Ok net) law found = tt
 is_refusal d (Err e) law found = by_first d e law found
+
+-- a first refusal refuses no draft that breaks no rule
+unbroken : (d : Draft) (e : NetRefusal) → IsAccepted d → IsRefusal d e → e ≡ NoMemory
+unbroken d NoMemory fine refused = refl
+unbroken d e fine refused = absurd (both_ways (breaks d (refusal_number e) (refusal_place e)) (fine (refusal_number e) (refusal_place e)) refused.broken)
+
+-- so such a draft is refused for want of memory alone
+pub only_memory : (d : Draft) (answer : Result NetworkPlan NetRefusal) → IfErr answer (IsRefusal d) → IsAccepted d → IfErr answer (λ e. e ≡ NoMemory)
+only_memory d (Ok net) refused fine = tt
+only_memory d (Err e) refused fine = unbroken d e fine refused
 
 -- the refusal with a number and a place
 refusal_with : Refusal → NetRefusal

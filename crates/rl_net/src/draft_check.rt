@@ -98,6 +98,8 @@ pub fn check(alloc: Global, draft: Draft) -> Result<Network, NetRefusal>
     ensures network { IfOk result (λ net. net ≡ network_of draft) }
     // A refused one breaks the rule at the place, none with a lower number, and this one at no earlier place.
     ensures refused { IfErr result (IsRefusal draft) }
+    // A draft that breaks no rule is refused for want of memory alone.
+    ensures only_memory { IsAccepted draft → IfErr result (λ e. e ≡ NoMemory) }
     // No other answer is right.
     ensures exact { (other : Result NetworkPlan NetRefusal) → IsRight draft other → UnlessMemory result (result ≡ other) }
 {
