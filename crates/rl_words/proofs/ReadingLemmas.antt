@@ -3,6 +3,7 @@ use Rattle.std.proofs.Common.{◌≡◌, ◌≢◌, ℕ, zero, suc, ◌+◌, ◌
 use Rattle.std.proofs.lemmas.Bool.{and_parts, and_from, eqb-true, eq-eqb, ne_eqb, eqb-false, ltb-true, lt-ltb, leb-true, le-leb, not-true, not_from_false, cond-true}
 use Rattle.std.proofs.lemmas.Option.{cond_some}
 use Rattle.rl_base.specs.declared.ids.TrainId.{TrainId}
+use Rattle.rl_base.specs.declared.limits.TheConstants.{MAX_TRAINS}
 use Rattle.rl_base.specs.declared.job.Verb.{Verb}
 use Rattle.rl_base.specs.declared.job.Verb.TheVariants.{Reserve, Release, Lock, Unlock}
 use Rattle.rl_base.specs.declared.kind.Side.{Side}
@@ -49,11 +50,11 @@ train-same n t e = ap train_id e
 -- the reservations
 fits_arm-true : (arm : Option TrainId) → fits_arm arm ≡ true → FitsArm arm
 fits_arm-true None h = tt
-fits_arm-true (Some t) h = ltb-true t.0 32 h
+fits_arm-true (Some t) h = ltb-true t.0 MAX_TRAINS h
 
 fits_arm_from : (arm : Option TrainId) → FitsArm arm → fits_arm arm ≡ true
 fits_arm_from None h = refl
-fits_arm_from (Some t) h = lt-ltb t.0 32 h
+fits_arm_from (Some t) h = lt-ltb t.0 MAX_TRAINS h
 
 holder_at-code : (n : ℕ) (arm : Option TrainId) → n ≡ arm_code arm → holder_at n ≡ arm
 holder_at-code zero None e = refl
@@ -255,13 +256,13 @@ run_at-packed (Across k) f = run_same 2 _ _ k (omega arith) (omega arith)
 
 fits_run-true : (v : RunWord) → fits_run v ≡ true → FitsRun v
 fits_run-true (Clear k) h = leb-true _ _ h
-fits_run-true (Go k) h = leb-true _ _ h
-fits_run-true (Across k) h = leb-true _ _ h
+fits_run-true (Go k) h = ltb-true _ _ h
+fits_run-true (Across k) h = ltb-true _ _ h
 
 fits_run_from : (v : RunWord) → FitsRun v → fits_run v ≡ true
 fits_run_from (Clear k) h = le-leb _ _ h
-fits_run_from (Go k) h = le-leb _ _ h
-fits_run_from (Across k) h = le-leb _ _ h
+fits_run_from (Go k) h = lt-ltb _ _ h
+fits_run_from (Across k) h = lt-ltb _ _ h
 
 pub read_run-packed : (v : RunWord) → FitsRun v → read_run (packed_run v) ≡ Some v
 unfolding read_run
@@ -282,13 +283,13 @@ sense_at-packed (Tail k) f = sense_same 2 _ _ k (omega arith) (omega arith)
 
 fits_sense-true : (v : SenseWord) → fits_sense v ≡ true → FitsSense v
 fits_sense-true (Quiet k) h = leb-true _ _ h
-fits_sense-true (Head k) h = leb-true _ _ h
-fits_sense-true (Tail k) h = leb-true _ _ h
+fits_sense-true (Head k) h = ltb-true _ _ h
+fits_sense-true (Tail k) h = ltb-true _ _ h
 
 fits_sense_from : (v : SenseWord) → FitsSense v → fits_sense v ≡ true
 fits_sense_from (Quiet k) h = le-leb _ _ h
-fits_sense_from (Head k) h = le-leb _ _ h
-fits_sense_from (Tail k) h = le-leb _ _ h
+fits_sense_from (Head k) h = lt-ltb _ _ h
+fits_sense_from (Tail k) h = lt-ltb _ _ h
 
 pub read_sense-packed : (v : SenseWord) → FitsSense v → read_sense (packed_sense v) ≡ Some v
 unfolding read_sense

@@ -1,7 +1,7 @@
 use Rattle.std.proofs.Common.{◌≡◌, ◌*◌, ◌%◌, ◌^◌, ◌∙◌}
 use Rattle.std.proofs.Math.Nat.{mod-eq_of_lt, add_comm}
 use Rattle.std.proofs.lemmas.Nat.{or_comm, or_shifted}
-use Rattle.rl_words.proofs.field.put.Goals as goal
+use Rattle.rl_words.proofs.field.with_bits.Goals as goal
 
 pub returns : goal.returns
 returns c =
