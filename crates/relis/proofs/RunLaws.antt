@@ -13,7 +13,7 @@ use Rattle.rl_model.specs.Reports.{FateFits, IsRightReport, refused_in}
 use Rattle.rl_model.specs.Safety.{world_after}
 use Rattle.rl_model.specs.World.{World}
 use Rattle.rl_record.specs.declared.event.Event.{Event}
-use Rattle.rl_runs.specs.Run.{IsRun}
+use Rattle.rl_steps.specs.Run.{IsRun}
 use Rattle.rl_safety.specs.Counts.{attempts_of}
 use Rattle.rl_safety.specs.Moves.{moves_of}
 use Rattle.rl_tables.specs.declared.table.Tables.{Tables}

@@ -19,10 +19,10 @@ use Rattle.rl_train.specs.declared.mind.TrainMind.{TrainMind}
 use Rattle.rl_train.specs.Mind.{is_resting}
 use Rattle.rl_protocol.specs.Minds.{at_rest}
 use Rattle.rl_protocol.specs.TableLine.{line_of}
-use Rattle.rl_runs.specs.declared.mind.Mind.{Mind}
-use Rattle.rl_runs.specs.declared.mind.Mind.TheVariants.{Machine}
-use Rattle.rl_runs.specs.State.{CoreState}
-use Rattle.rl_runs.specs.Turn.{Drive}
+use Rattle.rl_steps.specs.declared.mind.Mind.{Mind}
+use Rattle.rl_steps.specs.declared.mind.Mind.TheVariants.{Machine}
+use Rattle.rl_steps.specs.State.{CoreState}
+use Rattle.rl_steps.specs.Turn.{Drive}
 use Rattle.rl_safety.specs.Moves.{moves_of}
 use Rattle.rl_safety.specs.Reading.{train_mind}
 use Rattle.rl_safety.specs.Reports.{fate_of, outcome_of, outcomes_of, mind_in, report_of}

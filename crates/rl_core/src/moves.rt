@@ -8,7 +8,7 @@ ghost use Rattle.rl_safety.specs.Railway.{row_at, segment_of};
 use rl_base::{Arm, BoxId, Kind, SegId, TrainId, Verb, WordKind, side_of};
 use rl_model::Move;
 use rl_record::Event;
-use rl_runs::numbered;
+use rl_steps::numbered;
 use rl_tables::{Line, StepRow};
 use rl_words::{Letter, LockWord, MailWord, Path, ResvWord, RunWord, payload_of};
 

@@ -9,12 +9,12 @@ use Rattle.rl_record.specs.Merge.{history, IsBefore, IsAfterAll, Falls, IsMerge}
 use Rattle.rl_record.proofs.Members.{Has, has_in_history, has_from_history, has_from_contains, contains_from_has}
 use Rattle.rl_record.proofs.Falling.{after_has}
 use Rattle.rl_tables.specs.declared.table.Tables.{Tables}
-use Rattle.rl_runs.specs.declared.mind.Mind.{Mind}
-use Rattle.rl_runs.specs.Step.{node_step}
-use Rattle.rl_runs.specs.State.{CoreState, start, next_stamp, mind_after, put}
-use Rattle.rl_runs.specs.Run.{Fits, IsRun, state}
-use Rattle.rl_runs.proofs.Made.{IsMade, fits_made}
-use Rattle.rl_runs.proofs.Options.{get_set_same, get_set_other}
+use Rattle.rl_steps.specs.declared.mind.Mind.{Mind}
+use Rattle.rl_steps.specs.Step.{node_step}
+use Rattle.rl_steps.specs.State.{CoreState, start, next_stamp, mind_after, put}
+use Rattle.rl_steps.specs.Run.{Fits, IsRun, state}
+use Rattle.rl_steps.proofs.Made.{IsMade, fits_made}
+use Rattle.rl_steps.proofs.Options.{get_set_same, get_set_other}
 use Rattle.rl_lamport.specs.Chains.{mind_of, clock_of, IsStepOf, IsNodeChain, IsOn, Held, AreChained, AreLeft}
 use Rattle.rl_lamport.proofs.Exchange.{put_same, put_other, made_fits}
 

@@ -8,12 +8,12 @@ use Rattle.rl_record.specs.Merge.{history, Falls}
 use Rattle.rl_record.proofs.Members.{Has, has_in_history, has_from_history, has_from_contains, contains_from_has}
 use Rattle.rl_tables.specs.declared.table.Tables.{Tables}
 use Rattle.rl_tables.specs.Kept.{IsLine}
-use Rattle.rl_runs.specs.declared.mind.Mind.{Mind}
-use Rattle.rl_runs.specs.Step.{node_step}
-use Rattle.rl_runs.specs.State.{CoreState, start, next_stamp}
-use Rattle.rl_runs.specs.Run.{IsRun, state}
-use Rattle.rl_runs.proofs.Made.{IsMade, fits_made}
-use Rattle.rl_runs.proofs.Options.{get_set_same, get_set_other, same_some}
+use Rattle.rl_steps.specs.declared.mind.Mind.{Mind}
+use Rattle.rl_steps.specs.Step.{node_step}
+use Rattle.rl_steps.specs.State.{CoreState, start, next_stamp}
+use Rattle.rl_steps.specs.Run.{IsRun, state}
+use Rattle.rl_steps.proofs.Made.{IsMade, fits_made}
+use Rattle.rl_steps.proofs.Options.{get_set_same, get_set_other, same_some}
 use Rattle.rl_lamport.specs.Chains.{mind_of, clock_of, IsStepOf, IsNodeChain, IsOn, Held, AreChained, AreLeft}
 use Rattle.rl_lamport.proofs.Later.{Laws, own_stamp}
 use Rattle.rl_lamport.proofs.Sorted.{sort}

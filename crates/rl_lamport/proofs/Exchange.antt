@@ -7,12 +7,12 @@ use Rattle.std.proofs.lemmas.List.{set_comm}
 use Rattle.rl_record.specs.declared.event.Event.{Event}
 use Rattle.rl_words.specs.Stamps.{payload_in, stamped}
 use Rattle.rl_tables.specs.declared.table.Tables.{Tables}
-use Rattle.rl_runs.specs.declared.mind.Mind.{Mind}
-use Rattle.rl_runs.specs.Step.{node_step}
-use Rattle.rl_runs.specs.State.{CoreState, event_at, next_stamp, mind_after, after, put}
-use Rattle.rl_runs.specs.Run.{Fits}
-use Rattle.rl_runs.proofs.Made.{IsMade}
-use Rattle.rl_runs.proofs.Options.{get_set_other}
+use Rattle.rl_steps.specs.declared.mind.Mind.{Mind}
+use Rattle.rl_steps.specs.Step.{node_step}
+use Rattle.rl_steps.specs.State.{CoreState, event_at, next_stamp, mind_after, after, put}
+use Rattle.rl_steps.specs.Run.{Fits}
+use Rattle.rl_steps.proofs.Made.{IsMade}
+use Rattle.rl_steps.proofs.Options.{get_set_other}
 
 pub record Apart (e f : Event) : Type 0 where
   pub nodes : e.node.0 ≢ f.node.0

@@ -7,9 +7,9 @@ use Rattle.rl_record.specs.Merge.{history, IsBefore, IsAfterAll, Falls}
 use Rattle.rl_record.proofs.Falling.{before_both}
 use Rattle.rl_tables.specs.declared.table.Tables.{Tables}
 use Rattle.rl_tables.specs.Kept.{IsLine}
-use Rattle.rl_runs.specs.State.{CoreState, after}
-use Rattle.rl_runs.specs.Run.{Fits, IsRun, state}
-use Rattle.rl_runs.proofs.Made.{IsMade, fits_made}
+use Rattle.rl_steps.specs.State.{CoreState, after}
+use Rattle.rl_steps.specs.Run.{Fits, IsRun, state}
+use Rattle.rl_steps.proofs.Made.{IsMade, fits_made}
 use Rattle.rl_lamport.proofs.Exchange.{Apart, apart_back, made_before, made_after, made_fits, either_order}
 use Rattle.rl_lamport.proofs.Later.{Laws, Follows, apart}
 

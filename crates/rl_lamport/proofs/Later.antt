@@ -7,14 +7,14 @@ use Rattle.rl_words.specs.Stamps.{stamp_in, payload_in, stamped}
 use Rattle.rl_tables.specs.declared.table.Tables.{Tables}
 use Rattle.rl_tables.specs.Kept.{IsLine}
 use Rattle.rl_tables.specs.Starts.{layout_of}
-use Rattle.rl_runs.specs.declared.mind.Mind.{Mind}
-use Rattle.rl_runs.specs.Numbers.{node_at}
-use Rattle.rl_runs.specs.Step.{node_step}
-use Rattle.rl_runs.specs.State.{CoreState, after, put}
-use Rattle.rl_runs.specs.Run.{IsRun, state}
-use Rattle.rl_runs.specs.Sound.{IsMindOf, IsSound}
-use Rattle.rl_runs.proofs.Made.{IsMade, fits_made}
-use Rattle.rl_runs.proofs.Options.{get_set_same, same_some}
+use Rattle.rl_steps.specs.declared.mind.Mind.{Mind}
+use Rattle.rl_steps.specs.Numbers.{node_at}
+use Rattle.rl_steps.specs.Step.{node_step}
+use Rattle.rl_steps.specs.State.{CoreState, after, put}
+use Rattle.rl_steps.specs.Run.{IsRun, state}
+use Rattle.rl_steps.specs.Sound.{IsMindOf, IsSound}
+use Rattle.rl_steps.proofs.Made.{IsMade, fits_made}
+use Rattle.rl_steps.proofs.Options.{get_set_same, same_some}
 use Rattle.rl_lamport.proofs.Exchange.{Apart, put_same}
 
 -- what the proofs here use of runs, steps and words

@@ -14,9 +14,9 @@ use Rattle.rl_record.proofs.Rising.{Up}
 use Rattle.rl_record.proofs.Gathered.{in_some}
 use Rattle.rl_words.specs.Stamps.{stamp_in}
 use Rattle.rl_tables.specs.declared.table.Tables.{Tables}
-use Rattle.rl_runs.specs.State.{CoreState, put}
-use Rattle.rl_runs.specs.Run.{IsRun, state}
-use Rattle.rl_runs.proofs.Made.{IsMade, fits_made}
+use Rattle.rl_steps.specs.State.{CoreState, put}
+use Rattle.rl_steps.specs.Run.{IsRun, state}
+use Rattle.rl_steps.proofs.Made.{IsMade, fits_made}
 use Rattle.rl_lamport.specs.Records.{AreRecordsOf}
 use Rattle.rl_lamport.proofs.Exchange.{put_same, put_other}
 

@@ -4,9 +4,9 @@ use Rattle.rl_record.specs.declared.event.Event.{Event}
 use Rattle.rl_record.specs.Merge.{history, IsMerge}
 use Rattle.rl_tables.specs.declared.table.Tables.{Tables}
 use Rattle.rl_tables.specs.Kept.{IsLine}
-use Rattle.rl_runs.specs.State.{CoreState, after}
-use Rattle.rl_runs.specs.Run.{Fits, IsRun, state}
-use Rattle.rl_runs.proofs.Made.{fits_made}
+use Rattle.rl_steps.specs.State.{CoreState, after}
+use Rattle.rl_steps.specs.Run.{Fits, IsRun, state}
+use Rattle.rl_steps.proofs.Made.{fits_made}
 use Rattle.rl_lamport.proofs.Later.{Laws}
 use Rattle.rl_lamport.proofs.Insertion.{IsPlaced, insert}
 

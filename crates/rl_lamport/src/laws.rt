@@ -6,11 +6,11 @@ ghost use Rattle.rl_record.specs.Merge.{history, IsMerge};
 ghost use Rattle.rl_record.specs.Records.{Record, AreHistories, IsMergeOf};
 ghost use Rattle.rl_tables.specs.declared.table.Tables.{Tables};
 ghost use Rattle.rl_tables.specs.Kept.{IsLine};
-ghost use Rattle.rl_runs.specs.declared.mind.Mind.{Mind};
-ghost use Rattle.rl_runs.specs.Run.{IsRun, state};
+ghost use Rattle.rl_steps.specs.declared.mind.Mind.{Mind};
+ghost use Rattle.rl_steps.specs.Run.{IsRun, state};
 
 use rl_record::{histories_of_records, one_merge, records_by_node};
-use rl_runs::{sound_runs, steps_of_owners};
+use rl_steps::{sound_runs, steps_of_owners};
 use rl_words::stamps;
 
 /// Whatever the order in which the nodes made their steps: the merge of their histories is a run, and it leads to the

@@ -16,8 +16,8 @@ use Rattle.rl_lamport.specs.Records.{AreRecordsOf}
 use Rattle.rl_tables.specs.declared.table.Tables.{Tables}
 use Rattle.rl_tables.specs.Kept.{IsLine}
 use Rattle.rl_tables.specs.Starts.{layout_of}
-use Rattle.rl_runs.specs.Numbers.{node_at}
-use Rattle.rl_runs.specs.Run.{IsRun}
+use Rattle.rl_steps.specs.Numbers.{node_at}
+use Rattle.rl_steps.specs.Run.{IsRun}
 use Rattle.rl_safety.specs.Counts.{events_by, attempts_of}
 use Rattle.rl_nodes.specs.Finished.{AreFew}
 

@@ -10,7 +10,7 @@ use Rattle.rl_record.specs.Records.{Record}
 use Rattle.rl_lamport.specs.Records.{AreRecordsOf}
 use Rattle.rl_tables.specs.declared.table.Tables.{Tables}
 use Rattle.rl_tables.specs.Kept.{IsLine}
-use Rattle.rl_runs.specs.Run.{state}
+use Rattle.rl_steps.specs.Run.{state}
 use Rattle.rl_rule.specs.declared.rails.Rails.{Rails}
 use Rattle.rl_rule.specs.declared.views.Kept.{Kept}
 use Rattle.rl_rule.specs.Closing.{IsReplay}

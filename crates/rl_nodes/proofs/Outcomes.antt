@@ -8,8 +8,8 @@ use Rattle.rl_lamport.specs.Records.{AreRecordsOf}
 use Rattle.rl_tables.specs.declared.table.Tables.{Tables}
 use Rattle.rl_tables.specs.Kept.{IsLine}
 use Rattle.rl_tables.specs.Starts.{layout_of}
-use Rattle.rl_runs.specs.State.{CoreState}
-use Rattle.rl_runs.specs.Run.{IsRun, state}
+use Rattle.rl_steps.specs.State.{CoreState}
+use Rattle.rl_steps.specs.Run.{IsRun, state}
 use Rattle.rl_rule.specs.declared.rails.Rails.{Rails}
 use Rattle.rl_rule.specs.Seats.{line_of, tries_of}
 use Rattle.rl_nodes.specs.declared.parts.Part.{Part}

@@ -3,7 +3,7 @@ use Rattle.std.proofs.Common.{◌≡◌, ℕ, ◌<◌, true, List, ◌++◌, len
 use Rattle.std.proofs.lemmas.List.{drop_all, take_all, append-nil}
 use Rattle.std.proofs.lemmas.Option.{slice_get_within, get_or_from_slice_get, slice_get-get_or}
 use Rattle.rl_tables.specs.declared.table.Tables.{Tables}
-use Rattle.rl_runs.specs.declared.mind.Mind.{Mind}
+use Rattle.rl_steps.specs.declared.mind.Mind.{Mind}
 use Rattle.rl_rule.specs.declared.views.Walk.{Walk}
 use Rattle.rl_rule.specs.declared.rails.Rails.{Rails}
 use Rattle.rl_rule.specs.Seats.{line_of}

@@ -3,9 +3,9 @@
 use Rattle.std.specs.Prelude.{◌≡◌, ℕ, ◌*◌, ◌^◌, ◌<◌, ◌≤◌, List, length, map, reverse, All, slice_get, Some}
 use Rattle.rl_record.specs.declared.event.Event.{Event}
 use Rattle.rl_record.specs.Records.{Record}
-use Rattle.rl_runs.specs.declared.mind.Mind.{Mind}
-use Rattle.rl_runs.specs.State.{CoreState}
-use Rattle.rl_runs.specs.Run.{IsRun, state}
+use Rattle.rl_steps.specs.declared.mind.Mind.{Mind}
+use Rattle.rl_steps.specs.State.{CoreState}
+use Rattle.rl_steps.specs.Run.{IsRun, state}
 use Rattle.rl_rule.specs.declared.rails.Rails.{Rails}
 use Rattle.rl_rule.specs.Seats.{line_of, tries_of}
 use Rattle.rl_nodes.specs.declared.parts.Part.{Part}

@@ -3,9 +3,9 @@ use Rattle.std.specs.Prelude.{◌≡◌, ℕ, Some, None}
 use Rattle.rl_words.specs.Stamps.{payload_in}
 use Rattle.rl_record.specs.declared.event.Event.{Event}
 use Rattle.rl_tables.specs.declared.table.Tables.{Tables}
-use Rattle.rl_runs.specs.declared.mind.Mind.{Mind}
-use Rattle.rl_runs.specs.Step.{node_step}
-use Rattle.rl_minds.specs.Held.{HasMind}
+use Rattle.rl_steps.specs.declared.mind.Mind.{Mind}
+use Rattle.rl_steps.specs.Step.{node_step}
+use Rattle.rl_steps.specs.Held.{HasMind}
 use Rattle.rl_rule.specs.declared.views.Walk.{Walk}
 use Rattle.rl_rule.specs.Views.{loaded, stepped}
 use Rattle.rl_nodes.specs.declared.look.Look.{Look}

@@ -9,9 +9,9 @@ use Rattle.rl_tables.specs.declared.table.Tables.{Tables}
 use Rattle.rl_tables.specs.declared.table.TrainTable.{TrainTable}
 use Rattle.rl_tables.specs.Starts.{layout_of}
 use Rattle.rl_train.specs.Mind.{is_resting}
-use Rattle.rl_runs.specs.declared.mind.Mind.{Mind}
-use Rattle.rl_runs.specs.declared.mind.Mind.TheVariants.{Train}
-use Rattle.rl_minds.specs.Held.{HasMind}
+use Rattle.rl_steps.specs.declared.mind.Mind.{Mind}
+use Rattle.rl_steps.specs.declared.mind.Mind.TheVariants.{Train}
+use Rattle.rl_steps.specs.Held.{HasMind}
 use Rattle.rl_rule.specs.declared.views.Walk.{Walk}
 use Rattle.rl_rule.specs.declared.seats.NodeSeat.{NodeSeat}
 use Rattle.rl_rule.specs.declared.rails.Rails.{Rails}

@@ -6,10 +6,10 @@ use Rattle.rl_record.specs.declared.event.Turn.{Turn}
 use Rattle.rl_record.specs.declared.event.Turn.TheVariants.{Moved, Idle, Rest, Full}
 use Rattle.rl_record.specs.Records.{pushed}
 use Rattle.rl_tables.specs.declared.table.Tables.{Tables}
-use Rattle.rl_runs.specs.declared.mind.Mind.{Mind}
-use Rattle.rl_runs.specs.State.{next_stamp, event_at}
-use Rattle.rl_runs.specs.Step.{node_step, target_of, is_ready}
-use Rattle.rl_runs.specs.Turn.{next_place}
+use Rattle.rl_steps.specs.declared.mind.Mind.{Mind}
+use Rattle.rl_steps.specs.State.{next_stamp, event_at}
+use Rattle.rl_steps.specs.Step.{node_step, target_of, is_ready}
+use Rattle.rl_steps.specs.Turn.{next_place}
 use Rattle.rl_rule.specs.declared.views.Walk.{Walk}
 use Rattle.rl_rule.specs.Loads.{Tells, IsAlone, last_value}
 use Rattle.rl_rule.specs.Views.{loaded, stepped}

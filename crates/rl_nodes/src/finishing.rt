@@ -11,8 +11,8 @@ use rl_base::{NoMemory, Sequence};
 use rl_lamport::merged_records;
 use rl_record::{Events, Records, merge};
 use rl_rule::{Rails, Words};
-use rl_runs::Mind;
 use rl_safety::counted_events;
+use rl_steps::Mind;
 use std::alloc::Global;
 
 pub type Minds = Sequence<Mind>;

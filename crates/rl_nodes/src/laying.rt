@@ -8,10 +8,9 @@ ghost use Rattle.rl_nodes.specs.Laying.{AreSeatsOf, AreStartNodes, AreLaid, IsSt
 
 use crate::nodes::{Nodes, RunNode};
 use rl_base::{NoMemory, Sequence};
-use rl_minds::kept_minds;
 use rl_record::Record;
 use rl_rule::{NodeSeat, Rails};
-use rl_runs::start_mind;
+use rl_steps::{kept_minds, start_mind};
 use rl_tables::Line;
 use std::alloc::Global;
 

@@ -2,17 +2,16 @@ ghost use Rattle.std.specs.Prelude.{◌≡◌, ◌<◌, length, Some, None};
 ghost use Rattle.rl_base.specs.Layout.{node_count, word_count};
 ghost use Rattle.rl_words.specs.Stamps.{payload_in};
 ghost use Rattle.rl_tables.specs.Starts.{layout_of};
-ghost use Rattle.rl_runs.specs.Step.{node_step};
-ghost use Rattle.rl_minds.specs.Held.{HasMind};
+ghost use Rattle.rl_steps.specs.Step.{node_step};
+ghost use Rattle.rl_steps.specs.Held.{HasMind};
 ghost use Rattle.rl_rule.specs.Loads.{most_of_node};
 ghost use Rattle.rl_rule.specs.Seats.{rails_id, line_of, seat_id, seat_line, walk_of};
 ghost use Rattle.rl_nodes.specs.Looks.{IsLook};
 
 use rl_base::WordNo;
-use rl_minds::{act, kept_minds};
 use rl_record::Event;
 use rl_rule::{NodeSeat, Rails};
-use rl_runs::Mind;
+use rl_steps::{Mind, act, kept_minds};
 use rl_tables::Line;
 use rl_words::payload_of;
 

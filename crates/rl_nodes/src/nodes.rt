@@ -8,12 +8,11 @@ use crate::list::NodeList;
 use crate::look::{Look, look_at};
 use crate::scan::scan_after;
 use rl_base::{NoMemory, NodeNo};
-use rl_minds::target;
-use rl_minds::who::{Who, identify};
 use rl_record::{Record, Turn};
 use rl_rule::{NodeSeat, Rails};
 use rl_runner::Turner;
-use rl_runs::Mind;
+use rl_steps::who::{Who, identify};
+use rl_steps::{Mind, target};
 use rl_tables::Line;
 use std::marker::Model;
 

@@ -2,17 +2,16 @@
 ghost use Rattle.std.specs.Prelude.{◌≡◌, ◌<◌, ◌≤◌, ◌+◌, ◌∷◌, length, IfSome, IfOk, []};
 ghost use Rattle.rl_base.specs.Layout.{node_count, word_count};
 ghost use Rattle.rl_tables.specs.Starts.{layout_of};
-ghost use Rattle.rl_minds.specs.Held.{HasMind};
+ghost use Rattle.rl_steps.specs.Held.{HasMind};
 ghost use Rattle.rl_rule.specs.Seats.{rails_id, line_of, seat_id, seat_line, walk_of};
 ghost use Rattle.rl_rule.specs.Views.{start_walk};
 
 use crate::driven::line_of;
 use crate::networks::{STRAIGHT, TWO_LINES};
 use rl_base::{NoMemory, NodeNo, WordNo};
-use rl_minds::{act, kept_minds};
 use rl_record::{Event, Events, Record, Records, merge, records_by_node};
 use rl_rule::{NodeSeat, Rails};
-use rl_runs::{Mind, start_mind};
+use rl_steps::{Mind, act, kept_minds, start_mind};
 use rl_tables::Line;
 use rl_words::payload_of;
 use std::alloc::Global;

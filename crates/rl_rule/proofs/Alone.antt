@@ -16,8 +16,8 @@ use Rattle.rl_record.specs.declared.event.Event.{Event}
 use Rattle.rl_record.specs.Merge.{history}
 use Rattle.rl_tables.specs.declared.table.Tables.{Tables}
 use Rattle.rl_tables.specs.Starts.{layout_of}
-use Rattle.rl_runs.specs.Run.{state}
-use Rattle.rl_runs.specs.State.{start_word}
+use Rattle.rl_steps.specs.Run.{state}
+use Rattle.rl_steps.specs.State.{start_word}
 use Rattle.rl_rule.specs.Loads.{last_on, IsAlone, last_value}
 use Rattle.rl_rule.proofs.Histories.{history_own, history_other, last_here, last_there}
 use Rattle.rl_rule.proofs.Known.{Laws}

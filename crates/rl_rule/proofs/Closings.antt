@@ -8,8 +8,8 @@ use Rattle.rl_record.specs.declared.event.Event.{Event}
 use Rattle.rl_record.specs.Merge.{history, IsMerge}
 use Rattle.rl_tables.specs.declared.table.Tables.{Tables}
 use Rattle.rl_tables.specs.Kept.{IsLine}
-use Rattle.rl_runs.specs.Run.{state}
-use Rattle.rl_runs.specs.State.{CoreState}
+use Rattle.rl_steps.specs.Run.{state}
+use Rattle.rl_steps.specs.State.{CoreState}
 use Rattle.rl_rule.specs.declared.views.Kept.{Kept}
 use Rattle.rl_rule.specs.declared.views.View.{View}
 use Rattle.rl_rule.specs.declared.views.Role.TheVariants.{Root}

@@ -8,11 +8,11 @@ use Rattle.rl_record.specs.Merge.{history, IsMerge}
 use Rattle.rl_tables.specs.declared.table.Tables.{Tables}
 use Rattle.rl_tables.specs.Kept.{IsLine}
 use Rattle.rl_tables.specs.Starts.{layout_of}
-use Rattle.rl_runs.specs.declared.mind.Mind.{Mind}
-use Rattle.rl_runs.specs.Numbers.{node_at}
-use Rattle.rl_runs.specs.Run.{IsRun, state}
-use Rattle.rl_runs.specs.Sound.{IsMindOf, IsSound}
-use Rattle.rl_runs.specs.Step.{node_step}
+use Rattle.rl_steps.specs.declared.mind.Mind.{Mind}
+use Rattle.rl_steps.specs.Numbers.{node_at}
+use Rattle.rl_steps.specs.Run.{IsRun, state}
+use Rattle.rl_steps.specs.Sound.{IsMindOf, IsSound}
+use Rattle.rl_steps.specs.Step.{node_step}
 
 abbrev pub RunsAreSound : Type 0
 RunsAreSound = (tables : Tables) (tries : ℕ) (events : List Event) → IsLine tables → tries ≤ 1000 → length events < 2 ^ 32 → IsRun tables tries events

@@ -10,8 +10,8 @@ use Rattle.rl_words.specs.Stamps.{stamp_in}
 use Rattle.rl_record.specs.declared.event.Event.{Event}
 use Rattle.rl_tables.specs.declared.table.Tables.{Tables}
 use Rattle.rl_tables.specs.Starts.{layout_of}
-use Rattle.rl_runs.specs.Run.{state}
-use Rattle.rl_runs.specs.Sound.{IsSound}
+use Rattle.rl_steps.specs.Run.{state}
+use Rattle.rl_steps.specs.Sound.{IsSound}
 use Rattle.rl_rule.specs.declared.views.Load.{Load}
 use Rattle.rl_rule.specs.declared.views.Walk.{Walk}
 use Rattle.rl_rule.specs.declared.views.View.{View}

@@ -6,11 +6,11 @@ use Rattle.rl_words.specs.Stamps.{payload_in}
 use Rattle.rl_record.specs.declared.event.Event.{Event}
 use Rattle.rl_record.specs.Merge.{history}
 use Rattle.rl_tables.specs.declared.table.Tables.{Tables}
-use Rattle.rl_runs.specs.Run.{Fits, IsRun, state}
-use Rattle.rl_runs.specs.Step.{node_step}
-use Rattle.rl_runs.specs.State.{CoreState, next_stamp}
-use Rattle.rl_runs.specs.State as states
-use Rattle.rl_runs.proofs.Made.{IsMade, fits_made}
+use Rattle.rl_steps.specs.Run.{Fits, IsRun, state}
+use Rattle.rl_steps.specs.Step.{node_step}
+use Rattle.rl_steps.specs.State.{CoreState, next_stamp}
+use Rattle.rl_steps.specs.State as states
+use Rattle.rl_steps.proofs.Made.{IsMade, fits_made}
 use Rattle.rl_rule.specs.Histories.{clock_after, mind_after, IsStepOf, IsHistory, IsNodeChain, IsOneOf}
 use Rattle.rl_rule.proofs.Histories.{history_own, history_other}
 use Rattle.rl_rule.proofs.Others.{put_same, put_other}

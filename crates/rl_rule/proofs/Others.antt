@@ -14,9 +14,9 @@ use Rattle.rl_record.specs.Merge.{history}
 use Rattle.rl_tables.specs.declared.table.Tables.{Tables}
 use Rattle.rl_tables.specs.Kept.{IsLine}
 use Rattle.rl_tables.specs.Starts.{layout_of}
-use Rattle.rl_runs.specs.Run.{state}
-use Rattle.rl_runs.specs.State.{CoreState, put, start_mind, mind_after}
-use Rattle.rl_runs.proofs.Options.{same_some, get_set_other}
+use Rattle.rl_steps.specs.Run.{state}
+use Rattle.rl_steps.specs.State.{CoreState, put, start_mind, mind_after}
+use Rattle.rl_steps.proofs.Options.{same_some, get_set_other}
 use Rattle.rl_rule.specs.declared.views.Load.{Load}
 use Rattle.rl_rule.specs.declared.views.Walk.{Walk}
 use Rattle.rl_rule.specs.declared.views.Kept.{Kept}

@@ -9,8 +9,8 @@ use Rattle.atomic_table.specs.Table.{State}
 use Rattle.rl_record.specs.declared.event.Event.{Event}
 use Rattle.rl_record.specs.Merge.{history}
 use Rattle.rl_tables.specs.declared.table.Tables.{Tables}
-use Rattle.rl_runs.specs.Run.{state}
-use Rattle.rl_runs.specs.Sound.{IsSound}
+use Rattle.rl_steps.specs.Run.{state}
+use Rattle.rl_steps.specs.Sound.{IsSound}
 use Rattle.rl_rule.specs.declared.views.Kept.{Kept}
 use Rattle.rl_rule.specs.declared.views.View.{View}
 use Rattle.rl_rule.specs.declared.views.Role.TheVariants.{Root, Node}

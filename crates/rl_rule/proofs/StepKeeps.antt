@@ -12,11 +12,11 @@ use Rattle.rl_record.specs.declared.event.Event.{Event}
 use Rattle.rl_record.specs.Merge.{history}
 use Rattle.rl_tables.specs.declared.table.Tables.{Tables}
 use Rattle.rl_tables.specs.Starts.{layout_of}
-use Rattle.rl_runs.specs.declared.mind.Mind.{Mind}
-use Rattle.rl_runs.specs.Run.{Fits, state}
-use Rattle.rl_runs.specs.Step.{node_step}
-use Rattle.rl_runs.specs.State.{CoreState, next_stamp, event_at, mind_after}
-use Rattle.rl_runs.specs.Sound.{IsSound}
+use Rattle.rl_steps.specs.declared.mind.Mind.{Mind}
+use Rattle.rl_steps.specs.Run.{Fits, state}
+use Rattle.rl_steps.specs.Step.{node_step}
+use Rattle.rl_steps.specs.State.{CoreState, next_stamp, event_at, mind_after}
+use Rattle.rl_steps.specs.Sound.{IsSound}
 use Rattle.rl_rule.specs.declared.views.Load.{Load}
 use Rattle.rl_rule.specs.declared.views.Walk.{Walk}
 use Rattle.rl_rule.specs.declared.views.View.{View}

@@ -9,11 +9,11 @@ use Rattle.rl_record.specs.Merge.{history}
 use Rattle.rl_tables.specs.declared.table.Tables.{Tables}
 use Rattle.rl_tables.specs.Kept.{IsLine}
 use Rattle.rl_tables.specs.Starts.{layout_of}
-use Rattle.rl_runs.specs.Run.{IsRun, state}
-use Rattle.rl_runs.specs.State.{next_stamp}
-use Rattle.rl_runs.specs.Sound.{IsSound}
-use Rattle.rl_runs.proofs.Made.{IsMade, fits_made}
-use Rattle.rl_runs.proofs.Options.{same_some, get_set_same, get_set_other}
+use Rattle.rl_steps.specs.Run.{IsRun, state}
+use Rattle.rl_steps.specs.State.{next_stamp}
+use Rattle.rl_steps.specs.Sound.{IsSound}
+use Rattle.rl_steps.proofs.Made.{IsMade, fits_made}
+use Rattle.rl_steps.proofs.Options.{same_some, get_set_same, get_set_other}
 use Rattle.rl_rule.specs.Loads.{last_on}
 use Rattle.rl_rule.proofs.Histories.{history_own, history_other, last_here, last_there}
 use Rattle.rl_rule.proofs.Known.{Laws}

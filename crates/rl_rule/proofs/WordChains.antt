@@ -10,11 +10,11 @@ use Rattle.rl_record.specs.Merge.{history}
 use Rattle.rl_tables.specs.declared.table.Tables.{Tables}
 use Rattle.rl_tables.specs.Kept.{IsLine}
 use Rattle.rl_tables.specs.Starts.{layout_of}
-use Rattle.rl_runs.specs.Run.{IsRun, state}
-use Rattle.rl_runs.specs.State.{start_word, start_words}
-use Rattle.rl_runs.proofs.Made.{IsMade, fits_made}
-use Rattle.rl_runs.proofs.Options.{same_some, get_set_same, get_set_other}
-use Rattle.rl_runs.proofs.Starts.{start_words-length, start_words-get}
+use Rattle.rl_steps.specs.Run.{IsRun, state}
+use Rattle.rl_steps.specs.State.{start_word, start_words}
+use Rattle.rl_steps.proofs.Made.{IsMade, fits_made}
+use Rattle.rl_steps.proofs.Options.{same_some, get_set_same, get_set_other}
+use Rattle.rl_steps.proofs.Starts.{start_words-length, start_words-get}
 use Rattle.rl_rule.specs.Histories.{IsOneOf}
 use Rattle.rl_rule.specs.Rule.{IsOn, ComesFrom, written, begun, IsWordChain}
 use Rattle.rl_rule.proofs.Known.{Laws}

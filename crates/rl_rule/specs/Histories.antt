@@ -4,9 +4,9 @@ use Rattle.std.specs.Option.{option_map_or}
 use Rattle.rl_words.specs.Stamps.{payload_in, stamped}
 use Rattle.rl_record.specs.declared.event.Event.{Event}
 use Rattle.rl_tables.specs.declared.table.Tables.{Tables}
-use Rattle.rl_runs.specs.declared.mind.Mind.{Mind}
-use Rattle.rl_runs.specs.Step.{node_step}
-use Rattle.rl_runs.specs.State.{start_mind, next_stamp}
+use Rattle.rl_steps.specs.declared.mind.Mind.{Mind}
+use Rattle.rl_steps.specs.Step.{node_step}
+use Rattle.rl_steps.specs.State.{start_mind, next_stamp}
 
 -- the clock is the stamp of the last event, or 0
 abbrev pub clock_after : List Event → ℕ

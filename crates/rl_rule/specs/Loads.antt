@@ -6,7 +6,7 @@ use Rattle.rl_words.specs.Stamps.{stamp_in}
 use Rattle.rl_record.specs.declared.event.Event.{Event}
 use Rattle.rl_tables.specs.declared.table.Tables.{Tables}
 use Rattle.rl_tables.specs.Starts.{layout_of}
-use Rattle.rl_runs.specs.State.{start_word}
+use Rattle.rl_steps.specs.State.{start_word}
 
 -- the last event of the history, which is newest first, on word w
 abbrev pub last_on : ℕ → List Event → Option Event

@@ -12,7 +12,7 @@ ghost use Rattle.rl_rule.specs.Ruled.{IsRuled};
 ghost use Rattle.rl_rule.specs.Rule.{Rule};
 
 use rl_base::numberings;
-use rl_runs::{sound_runs, steps_of_owners};
+use rl_steps::{sound_runs, steps_of_owners};
 use rl_words::one_owner;
 
 /// Where all that the threads did is one run, the rule of the rails holds: places, histories, chains, fresh loads and

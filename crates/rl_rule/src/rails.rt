@@ -13,7 +13,7 @@ use atomic_table::{Closed, Table};
 use rl_base::{NoMemory, NodeNo, Sequence, WordNo};
 use rl_lamport::merged_runs;
 use rl_record::Event;
-use rl_runs::{Mind, sound_runs, start_words, steps_of_owners};
+use rl_steps::{Mind, sound_runs, start_words, steps_of_owners};
 use rl_tables::Line;
 use rl_words::{one_owner, word_of};
 use std::alloc::Global;

@@ -23,17 +23,17 @@ use Rattle.rl_box.specs.declared.mind.Work.{Work}
 use Rattle.rl_box.specs.declared.mind.Work.TheVariants.{Ready, Serve, Say}
 use Rattle.rl_box.specs.Mind.{IsBoxMind}
 use Rattle.rl_box.specs.Steps.{BoxStep, box_step, box_target, verb_target, work_target}
-use Rattle.rl_runs.specs.declared.mind.Mind.{Mind}
-use Rattle.rl_runs.specs.declared.mind.Mind.TheVariants.{Train, Track, Box, Machine}
-use Rattle.rl_runs.specs.Numbers.{node_at, word_at}
-use Rattle.rl_runs.specs.Sound.{IsMindOf}
-use Rattle.rl_runs.specs.State.{CoreState, event_at, next_stamp}
-use Rattle.rl_runs.specs.Step.{node_step, target_of, as_mind, has_nothing, is_ready}
-use Rattle.rl_runs.specs.Turn.{Drive, answer_of_target, target_in}
-use Rattle.rl_runs.proofs.Acts.{box_target_there}
-use Rattle.rl_runs.proofs.ByKind.{box_step_at, box_target_at}
-use Rattle.rl_runs.proofs.Numbering.{node_at-some, word_at-number}
-use Rattle.rl_runs.proofs.Sounding.{AreMinded}
+use Rattle.rl_steps.specs.declared.mind.Mind.{Mind}
+use Rattle.rl_steps.specs.declared.mind.Mind.TheVariants.{Train, Track, Box, Machine}
+use Rattle.rl_steps.specs.Numbers.{node_at, word_at}
+use Rattle.rl_steps.specs.Sound.{IsMindOf}
+use Rattle.rl_steps.specs.State.{CoreState, event_at, next_stamp}
+use Rattle.rl_steps.specs.Step.{node_step, target_of, as_mind, has_nothing, is_ready}
+use Rattle.rl_steps.specs.Turn.{Drive, answer_of_target, target_in}
+use Rattle.rl_steps.proofs.FromCalls.{box_target_there}
+use Rattle.rl_steps.proofs.ByKind.{box_step_at, box_target_at}
+use Rattle.rl_steps.proofs.Numbering.{node_at-some, word_at-number}
+use Rattle.rl_steps.proofs.Sounding.{AreMinded}
 use Rattle.rl_protocol.specs.Agreement.{Agrees}
 use Rattle.rl_protocol.specs.AtWork.{word_for, word_at_work}
 use Rattle.rl_protocol.specs.Sentences.{HasWord as HasValue, HasLine}

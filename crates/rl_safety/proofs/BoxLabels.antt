@@ -32,7 +32,7 @@ use Rattle.rl_box.specs.Steps.BoxStep.{take, reserve, refuse, release, lock, ask
 use Rattle.rl_track.specs.declared.machine.MachineMind.{MachineMind}
 use Rattle.rl_track.specs.Machine.{MachineStep}
 use Rattle.rl_track.specs.Machine.MachineStep.{throw, settle}
-use Rattle.rl_runs.specs.declared.mind.Mind.TheVariants.{Box, Machine}
+use Rattle.rl_steps.specs.declared.mind.Mind.TheVariants.{Box, Machine}
 use Rattle.rl_protocol.specs.State.{State, put, put_at}
 use Rattle.rl_protocol.specs.Steps.Step.{take as take_label, grant as grant_label, refuse as refuse_label, release as release_label, lock_now as lock_now_label, lock_ask as lock_ask_label, lock_moved as lock_moved_label, unlock as unlock_label, say_yes as say_yes_label, say_no as say_no_label, busy as busy_label, throw as throw_label, settle as settle_label}
 use Rattle.rl_protocol.specs.TableLine.{line_of}

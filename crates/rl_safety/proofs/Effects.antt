@@ -16,11 +16,11 @@ use Rattle.rl_tables.specs.declared.table.Tables.{Tables}
 use Rattle.rl_train.specs.declared.mind.TrainMind.{TrainMind}
 use Rattle.rl_box.specs.declared.mind.BoxMind.{BoxMind}
 use Rattle.rl_track.specs.declared.track.TrackMind.{TrackMind}
-use Rattle.rl_runs.specs.declared.mind.Mind.{Mind}
-use Rattle.rl_runs.specs.declared.mind.Mind.TheVariants.{Train, Track, Box, Machine}
-use Rattle.rl_runs.specs.Sound.{IsMindOf}
-use Rattle.rl_runs.specs.State.{CoreState, after}
-use Rattle.rl_runs.proofs.Options.{from_map}
+use Rattle.rl_steps.specs.declared.mind.Mind.{Mind}
+use Rattle.rl_steps.specs.declared.mind.Mind.TheVariants.{Train, Track, Box, Machine}
+use Rattle.rl_steps.specs.Sound.{IsMindOf}
+use Rattle.rl_steps.specs.State.{CoreState, after}
+use Rattle.rl_steps.proofs.Options.{from_map}
 use Rattle.rl_protocol.specs.State.{State}
 use Rattle.rl_safety.specs.Reading.{read, holder_in, lock_in, mail_in, run_in, sense_in, train_of, track_of, box_of}
 use Rattle.rl_safety.specs.Effects.{with_mind, with_word}

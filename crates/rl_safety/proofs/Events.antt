@@ -40,15 +40,15 @@ use Rattle.rl_track.specs.declared.track.TrackPhase.TheVariants.{Watch, LeaveDue
 use Rattle.rl_track.specs.declared.machine.MachineMind.{MachineMind}
 use Rattle.rl_track.specs.Machine.{machine_step}
 use Rattle.rl_track.specs.Track.{track_step, track_at}
-use Rattle.rl_runs.specs.declared.mind.Mind.{Mind}
-use Rattle.rl_runs.specs.declared.mind.Mind.TheVariants.{Train, Track, Box, Machine}
-use Rattle.rl_runs.specs.Numbers.{node_at, word_at}
-use Rattle.rl_runs.specs.Sound.{IsMindOf}
-use Rattle.rl_runs.specs.Step.{step_of, as_mind}
-use Rattle.rl_runs.specs.State.{CoreState, after}
-use Rattle.rl_runs.proofs.Keeping.{StepsKeep}
-use Rattle.rl_runs.proofs.Made.{IsMade}
-use Rattle.rl_runs.proofs.Options.{from_map, from_then, same_some}
+use Rattle.rl_steps.specs.declared.mind.Mind.{Mind}
+use Rattle.rl_steps.specs.declared.mind.Mind.TheVariants.{Train, Track, Box, Machine}
+use Rattle.rl_steps.specs.Numbers.{node_at, word_at}
+use Rattle.rl_steps.specs.Sound.{IsMindOf}
+use Rattle.rl_steps.specs.Step.{step_of, as_mind}
+use Rattle.rl_steps.specs.State.{CoreState, after}
+use Rattle.rl_steps.proofs.Keeping.{StepsKeep}
+use Rattle.rl_steps.proofs.Made.{IsMade}
+use Rattle.rl_steps.proofs.Options.{from_map, from_then, same_some}
 use Rattle.rl_protocol.specs.State.{State}
 use Rattle.rl_protocol.specs.Steps.{Step, Fits, next}
 use Rattle.rl_protocol.specs.StepMoves as moves

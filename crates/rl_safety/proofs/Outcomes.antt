@@ -13,7 +13,7 @@ use Rattle.rl_model.specs.Reports.{Rests, FateFits, IsRightOutcome, made_in, ref
 use Rattle.rl_model.specs.Safety.{world_after}
 use Rattle.rl_model.specs.World.{World}
 use Rattle.rl_record.specs.declared.event.Event.{Event}
-use Rattle.rl_runs.specs.Run.{state}
+use Rattle.rl_steps.specs.Run.{state}
 use Rattle.rl_tables.specs.declared.table.Tables.{Tables}
 use Rattle.rl_train.specs.declared.mind.TrainMind.{TrainMind}
 use Rattle.rl_protocol.specs.Agreement.{Agrees}

@@ -12,9 +12,9 @@ use Rattle.rl_record.specs.declared.event.Event.{Event}
 use Rattle.rl_words.specs.Stamps.{payload_in, stamped}
 use Rattle.rl_tables.specs.declared.table.Tables.{Tables}
 use Rattle.rl_tables.specs.Starts.{layout_of}
-use Rattle.rl_runs.specs.Numbers.{word_at}
-use Rattle.rl_runs.specs.State.{CoreState, after}
-use Rattle.rl_runs.proofs.Numbering.{word_at-number, word_at-some}
+use Rattle.rl_steps.specs.Numbers.{word_at}
+use Rattle.rl_steps.specs.State.{CoreState, after}
+use Rattle.rl_steps.proofs.Numbering.{word_at-number, word_at-some}
 use Rattle.rl_safety.specs.Reading.{has_word, payload_of}
 
 -- the test of a word's being there

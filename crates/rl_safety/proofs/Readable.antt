@@ -20,14 +20,14 @@ use Rattle.rl_tables.specs.declared.table.BoxTable.{BoxTable}
 use Rattle.rl_tables.specs.declared.table.Tables.{Tables}
 use Rattle.rl_tables.specs.Kept.{IsLine}
 use Rattle.rl_tables.specs.Starts.{layout_of, start_resv, start_lock, start_payload}
-use Rattle.rl_runs.specs.Numbers.{word_at}
-use Rattle.rl_runs.specs.Run as runs
-use Rattle.rl_runs.specs.State.{CoreState, after}
-use Rattle.rl_runs.specs.State as cores
-use Rattle.rl_runs.proofs.Numbering.{word_at-number, word_at-some}
-use Rattle.rl_runs.proofs.Options.{same_some}
-use Rattle.rl_runs.proofs.Sounding.{runs_minded}
-use Rattle.rl_runs.proofs.Starts.{start_words-length}
+use Rattle.rl_steps.specs.Numbers.{word_at}
+use Rattle.rl_steps.specs.Run as runs
+use Rattle.rl_steps.specs.State.{CoreState, after}
+use Rattle.rl_steps.specs.State as cores
+use Rattle.rl_steps.proofs.Numbering.{word_at-number, word_at-some}
+use Rattle.rl_steps.proofs.Options.{same_some}
+use Rattle.rl_steps.proofs.Sounding.{runs_minded}
+use Rattle.rl_steps.proofs.Starts.{start_words-length}
 use Rattle.rl_protocol.specs.Agreement.{Agrees}
 use Rattle.rl_protocol.specs.Line.{IsConsistent}
 use Rattle.rl_protocol.specs.TableLine.{line_of}

@@ -15,16 +15,16 @@ use Rattle.rl_train.specs.declared.mind.TrainMind.{TrainMind}
 use Rattle.rl_train.specs.Jobs.{is_near, is_pass}
 use Rattle.rl_train.specs.Mind.{is_resting}
 use Rattle.rl_train.specs.Steps.{train_target}
-use Rattle.rl_runs.specs.declared.mind.Mind.{Mind}
-use Rattle.rl_runs.specs.declared.mind.Mind.TheVariants.{Train, Track, Box, Machine}
-use Rattle.rl_runs.specs.Numbers.{node_at}
-use Rattle.rl_runs.specs.Sound.{IsMindOf}
-use Rattle.rl_runs.specs.State.{CoreState, event_of}
-use Rattle.rl_runs.specs.Step.{target_of}
-use Rattle.rl_runs.specs.Turn.{Drive, answer_at, answer_of_target, target_in}
-use Rattle.rl_runs.proofs.Sounding.{AreMinded}
-use Rattle.rl_runs.proofs.ByKind.{train_target_at, track_target_at, box_target_at, machine_target_at}
-use Rattle.rl_runs.proofs.Numbering.{node_at-some}
+use Rattle.rl_steps.specs.declared.mind.Mind.{Mind}
+use Rattle.rl_steps.specs.declared.mind.Mind.TheVariants.{Train, Track, Box, Machine}
+use Rattle.rl_steps.specs.Numbers.{node_at}
+use Rattle.rl_steps.specs.Sound.{IsMindOf}
+use Rattle.rl_steps.specs.State.{CoreState, event_of}
+use Rattle.rl_steps.specs.Step.{target_of}
+use Rattle.rl_steps.specs.Turn.{Drive, answer_at, answer_of_target, target_in}
+use Rattle.rl_steps.proofs.Sounding.{AreMinded}
+use Rattle.rl_steps.proofs.ByKind.{train_target_at, track_target_at, box_target_at, machine_target_at}
+use Rattle.rl_steps.proofs.Numbering.{node_at-some}
 use Rattle.rl_protocol.specs.Jobs.{begins}
 use Rattle.rl_protocol.specs.Minds.{at_rest}
 use Rattle.rl_protocol.specs.TableLine.{line_of}

@@ -20,18 +20,18 @@ use Rattle.rl_tables.specs.declared.table.TrainTable.{TrainTable}
 use Rattle.rl_tables.specs.declared.table.Tables.{Tables}
 use Rattle.rl_tables.specs.Kept.{IsLine}
 use Rattle.rl_tables.specs.Starts.{layout_of}
-use Rattle.rl_runs.specs.declared.mind.Mind.{Mind}
-use Rattle.rl_runs.specs.declared.mind.Mind.TheVariants.{Train, Track, Box, Machine}
-use Rattle.rl_runs.specs.Numbers.{node_at, word_at}
-use Rattle.rl_runs.specs.Sound.{IsMindOf}
-use Rattle.rl_runs.specs.Step.{node_step, step_of}
-use Rattle.rl_runs.specs.State.{CoreState}
-use Rattle.rl_runs.specs.Run as runs
-use Rattle.rl_runs.proofs.Keeping.{StepsKeep}
-use Rattle.rl_runs.proofs.Made.{IsMade, fits_made}
-use Rattle.rl_runs.proofs.Numbering.{node_at-some, word_at-some}
-use Rattle.rl_runs.proofs.Options.{from_then, same_some}
-use Rattle.rl_runs.proofs.Sounding.{AreMinded, runs_minded}
+use Rattle.rl_steps.specs.declared.mind.Mind.{Mind}
+use Rattle.rl_steps.specs.declared.mind.Mind.TheVariants.{Train, Track, Box, Machine}
+use Rattle.rl_steps.specs.Numbers.{node_at, word_at}
+use Rattle.rl_steps.specs.Sound.{IsMindOf}
+use Rattle.rl_steps.specs.Step.{node_step, step_of}
+use Rattle.rl_steps.specs.State.{CoreState}
+use Rattle.rl_steps.specs.Run as runs
+use Rattle.rl_steps.proofs.Keeping.{StepsKeep}
+use Rattle.rl_steps.proofs.Made.{IsMade, fits_made}
+use Rattle.rl_steps.proofs.Numbering.{node_at-some, word_at-some}
+use Rattle.rl_steps.proofs.Options.{from_then, same_some}
+use Rattle.rl_steps.proofs.Sounding.{AreMinded, runs_minded}
 use Rattle.rl_protocol.specs.Agreement.{Agrees, IsPassing, is_passing}
 use Rattle.rl_protocol.specs.Counts.{same_node, events_of}
 use Rattle.rl_protocol.specs.Jobs.{passes}

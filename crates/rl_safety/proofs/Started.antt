@@ -35,12 +35,12 @@ use Rattle.rl_tables.specs.declared.table.Tables.{Tables}
 use Rattle.rl_tables.specs.Kept.{IsLine}
 use Rattle.rl_tables.specs.Starts.{layout_of, holder_of, arm_holder, start_resv, start_lock, start_payload}
 use Rattle.rl_tables.specs.Tables.{segment_number}
-use Rattle.rl_runs.specs.Numbers.{node_at, train, box}
-use Rattle.rl_runs.specs.State as cores
-use Rattle.rl_runs.specs.State.{start_mind, start_mind_of, start_word, start_words}
-use Rattle.rl_runs.proofs.Beginning.{start_fits, holder_fits}
-use Rattle.rl_runs.proofs.Numbering.{node_at-number, word_at-number}
-use Rattle.rl_runs.proofs.Starts.{start_words-get}
+use Rattle.rl_steps.specs.Numbers.{node_at, train, box}
+use Rattle.rl_steps.specs.State as cores
+use Rattle.rl_steps.specs.State.{start_mind, start_mind_of, start_word, start_words}
+use Rattle.rl_steps.proofs.Beginning.{start_fits, holder_fits}
+use Rattle.rl_steps.proofs.Numbering.{node_at-number, word_at-number}
+use Rattle.rl_steps.proofs.Starts.{start_words-get}
 use Rattle.rl_protocol.specs.State as protocol
 use Rattle.rl_protocol.specs.State.{State}
 use Rattle.rl_protocol.specs.TableLine.{line_of}

@@ -20,7 +20,7 @@ use Rattle.rl_track.specs.declared.track.TrackMind.{TrackMind}
 use Rattle.rl_track.specs.declared.track.TrackPhase.TheVariants.{Watch, LeaveDue}
 use Rattle.rl_track.specs.Track.{TrackStep, track_at}
 use Rattle.rl_track.specs.Track.TrackStep.{enter, head, leave, tail}
-use Rattle.rl_runs.specs.declared.mind.Mind.TheVariants.{Train, Track}
+use Rattle.rl_steps.specs.declared.mind.Mind.TheVariants.{Train, Track}
 use Rattle.rl_protocol.specs.Jobs.{letter_at, job_after_yes, job_after_no, passes, begins, finishes}
 use Rattle.rl_protocol.specs.Minds as minds
 use Rattle.rl_protocol.specs.State.{State}

@@ -22,8 +22,8 @@ use Rattle.rl_words.specs.Readings.{read_resv, read_lock, read_mail, read_run, r
 use Rattle.rl_words.specs.Stamps.{stamped}
 use Rattle.rl_tables.specs.declared.table.Tables.{Tables}
 use Rattle.rl_tables.specs.Starts.{layout_of}
-use Rattle.rl_runs.specs.Numbers.{word_at, train, box}
-use Rattle.rl_runs.specs.State.{CoreState, after}
+use Rattle.rl_steps.specs.Numbers.{word_at, train, box}
+use Rattle.rl_steps.specs.State.{CoreState, after}
 use Rattle.rl_protocol.specs.State.{put}
 use Rattle.rl_safety.specs.Reading.{payload_of, holder_of, holder_in, lock_in, mail_in, run_in, sense_in}
 use Rattle.rl_safety.proofs.Payloads.{payload_changed, payload_kept}

@@ -4,8 +4,8 @@ use Rattle.rl_base.specs.declared.layout.NodeKind.{NodeKind}
 use Rattle.rl_base.specs.declared.layout.NodeKind.TheVariants as nodes
 use Rattle.rl_words.specs.Word.{Word}
 use Rattle.rl_words.specs.Word.Word.{Resv, Lock, Mail, Run, Sense}
-use Rattle.rl_runs.specs.declared.mind.Mind.{Mind}
-use Rattle.rl_runs.specs.declared.mind.Mind.TheVariants.{Train, Track, Box}
+use Rattle.rl_steps.specs.declared.mind.Mind.{Mind}
+use Rattle.rl_steps.specs.declared.mind.Mind.TheVariants.{Train, Track, Box}
 use Rattle.rl_protocol.specs.State.{State, put}
 use Rattle.rl_safety.specs.Reading.{holder_of}
 

@@ -5,7 +5,7 @@ use Rattle.rl_base.specs.declared.layout.NodeKind.{NodeKind}
 use Rattle.rl_words.specs.Word.{Word}
 use Rattle.rl_words.specs.Word.Word.{Resv, Lock, Mail, Run, Sense}
 use Rattle.rl_tables.specs.declared.table.Tables.{Tables}
-use Rattle.rl_runs.specs.declared.mind.Mind.{Mind}
+use Rattle.rl_steps.specs.declared.mind.Mind.{Mind}
 use Rattle.rl_protocol.specs.State.{State}
 use Rattle.rl_protocol.specs.Steps.{Step, Fits, next}
 use Rattle.rl_protocol.specs.StepMoves.{move_of}

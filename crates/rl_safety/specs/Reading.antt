@@ -27,10 +27,10 @@ use Rattle.rl_box.specs.declared.mind.BoxMind.{BoxMind}
 use Rattle.rl_box.specs.Mind.{start_box}
 use Rattle.rl_track.specs.declared.track.TrackMind.{TrackMind}
 use Rattle.rl_track.specs.Track.{start_track}
-use Rattle.rl_runs.specs.declared.mind.Mind.{Mind}
-use Rattle.rl_runs.specs.declared.mind.Mind.TheVariants.{Train, Track, Box}
-use Rattle.rl_runs.specs.Numbers.{train, box}
-use Rattle.rl_runs.specs.State.{CoreState}
+use Rattle.rl_steps.specs.declared.mind.Mind.{Mind}
+use Rattle.rl_steps.specs.declared.mind.Mind.TheVariants.{Train, Track, Box}
+use Rattle.rl_steps.specs.Numbers.{train, box}
+use Rattle.rl_steps.specs.State.{CoreState}
 use Rattle.rl_protocol.specs.State.{State}
 
 -- a mind as that of a train, a track or a box; a mind of another kind stands for the one at the start

@@ -4,8 +4,8 @@ use Rattle.rl_base.specs.declared.layout.NodeKind.{NodeKind}
 use Rattle.rl_record.specs.declared.event.Event.{Event}
 use Rattle.rl_tables.specs.declared.table.Tables.{Tables}
 use Rattle.rl_tables.specs.Starts.{layout_of}
-use Rattle.rl_runs.specs.Numbers.{node_at}
-use Rattle.rl_runs.specs.Run as runs
+use Rattle.rl_steps.specs.Numbers.{node_at}
+use Rattle.rl_steps.specs.Run as runs
 use Rattle.rl_protocol.specs.Counts.{events_of}
 use Rattle.rl_protocol.specs.Runs as protocol
 use Rattle.rl_protocol.specs.Steps.{Step}

@@ -3,7 +3,7 @@ ghost use Rattle.rl_model.specs.declared.network.NetworkPlan.{NetworkPlan};
 ghost use Rattle.rl_model.specs.Network.{IsNetwork};
 ghost use Rattle.rl_model.specs.Safety.{IsKept};
 ghost use Rattle.rl_record.specs.declared.event.Event.{Event};
-ghost use Rattle.rl_runs.specs.Run.{IsRun, state};
+ghost use Rattle.rl_steps.specs.Run.{IsRun, state};
 ghost use Rattle.rl_safety.specs.Ranges.{NamesWhatIsThere};
 ghost use Rattle.rl_safety.specs.Reading.{read};
 ghost use Rattle.rl_safety.specs.World.{world_of_core};

@@ -11,13 +11,13 @@ use Rattle.rl_protocol.specs.Rest.{AllRest}
 use Rattle.rl_protocol.specs.TableLine.{line_of}
 use Rattle.rl_protocol.proofs.Moved.{item_there}
 use Rattle.rl_record.specs.declared.event.Event.{Event}
-use Rattle.rl_runs.specs.declared.mind.Mind.{Mind}
-use Rattle.rl_runs.specs.declared.mind.Mind.TheVariants.{Train, Track, Box, Machine}
-use Rattle.rl_runs.specs.Numbers.{node_at, train}
-use Rattle.rl_runs.specs.Run.{IsRun, state}
-use Rattle.rl_runs.specs.Sound.{IsMindOf}
-use Rattle.rl_runs.specs.State.{CoreState, start, start_mind_of}
-use Rattle.rl_runs.proofs.Numbering.{node_at-number}
+use Rattle.rl_steps.specs.declared.mind.Mind.{Mind}
+use Rattle.rl_steps.specs.declared.mind.Mind.TheVariants.{Train, Track, Box, Machine}
+use Rattle.rl_steps.specs.Numbers.{node_at, train}
+use Rattle.rl_steps.specs.Run.{IsRun, state}
+use Rattle.rl_steps.specs.Sound.{IsMindOf}
+use Rattle.rl_steps.specs.State.{CoreState, start, start_mind_of}
+use Rattle.rl_steps.proofs.Numbering.{node_at-number}
 use Rattle.rl_safety.specs.Reading.{read, train_mind}
 use Rattle.rl_safety.proofs.Rests.{rest_is}
 use Rattle.rl_tables.specs.declared.table.Tables.{Tables}

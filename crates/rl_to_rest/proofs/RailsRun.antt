@@ -13,9 +13,9 @@ use Rattle.rl_record.specs.declared.event.Event.{Event}
 use Rattle.rl_record.specs.Records.{Record, IsMergeOf}
 use Rattle.rl_rule.specs.declared.rails.Rails.{Rails}
 use Rattle.rl_rule.specs.Seats.{line_of, tries_of}
-use Rattle.rl_runs.specs.declared.mind.Mind.{Mind}
-use Rattle.rl_runs.specs.Run.{state}
-use Rattle.rl_runs.proofs.Options.{from_map}
+use Rattle.rl_steps.specs.declared.mind.Mind.{Mind}
+use Rattle.rl_steps.specs.Run.{state}
+use Rattle.rl_steps.proofs.Options.{from_map}
 use Rattle.rl_safety.specs.Reports.{report_of}
 use Rattle.rl_tables.specs.declared.table.Tables.{Tables}
 use Rattle.rl_tables.specs.Kept.{IsLine}

@@ -5,7 +5,7 @@ use Rattle.rl_protocol.specs.Rest.{AllRest}
 use Rattle.rl_protocol.specs.TableLine.{line_of}
 use Rattle.rl_record.specs.declared.event.Event.{Event}
 use Rattle.rl_record.specs.Merge.{Falls}
-use Rattle.rl_runs.specs.Run.{IsRun, state}
+use Rattle.rl_steps.specs.Run.{IsRun, state}
 use Rattle.rl_safety.specs.Reading.{read}
 use Rattle.rl_safety.specs.Reports.{report_of}
 use Rattle.rl_tables.specs.declared.table.Tables.{Tables}

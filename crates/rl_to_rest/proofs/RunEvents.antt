@@ -9,11 +9,11 @@ use Rattle.rl_core.specs.Replays.{before}
 use Rattle.rl_core.proofs.Replaying.{before_more}
 use Rattle.rl_model.specs.declared.moves.Move.{Move}
 use Rattle.rl_record.specs.declared.event.Event.{Event}
-use Rattle.rl_runs.specs.Run.{IsRun, state}
-use Rattle.rl_runs.specs.Sound.{IsSound}
-use Rattle.rl_runs.specs.Step.{node_step}
-use Rattle.rl_runs.specs.State.{event_at, next_stamp}
-use Rattle.rl_runs.proofs.Options.{from_then}
+use Rattle.rl_steps.specs.Run.{IsRun, state}
+use Rattle.rl_steps.specs.Sound.{IsSound}
+use Rattle.rl_steps.specs.Step.{node_step}
+use Rattle.rl_steps.specs.State.{event_at, next_stamp}
+use Rattle.rl_steps.proofs.Options.{from_then}
 use Rattle.rl_safety.specs.Counts.{attempts_of}
 use Rattle.rl_safety.specs.Moves.{move_of, moves_of}
 use Rattle.rl_tables.specs.declared.table.Tables.{Tables}

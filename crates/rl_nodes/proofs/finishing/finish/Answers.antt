@@ -1,6 +1,6 @@
 use Rattle.std.proofs.Common.{List, sym, subst}
 use Rattle.rl_record.specs.Records.{Record, AreHistories, IsMergeOf}
-use Rattle.rl_runs.specs.declared.mind.Mind.{Mind}
+use Rattle.rl_steps.specs.declared.mind.Mind.{Mind}
 use Rattle.rl_rule.specs.Seats.{line_of, tries_of}
 use Rattle.rl_nodes.specs.Finished.{records_of, state_of, AreMinds, most_attempts, AreFew}
 use Rattle.rl_nodes.proofs.LastRun.{last_run, records_are}

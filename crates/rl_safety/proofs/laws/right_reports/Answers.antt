@@ -6,7 +6,7 @@ use Rattle.rl_model.specs.World.{World}
 use Rattle.rl_record.specs.declared.event.Event.{Event}
 use Rattle.rl_tables.specs.declared.table.Tables.{Tables}
 use Rattle.rl_tables.specs.Tables.{AreTablesOf}
-use Rattle.rl_runs.specs.Run.{IsRun}
+use Rattle.rl_steps.specs.Run.{IsRun}
 use Rattle.rl_safety.specs.Moves.{moves_of}
 use Rattle.rl_safety.proofs.Outcomes.{IsAccounted, outcomes_trains, right_outcomes, few_outcomes, ended_outcome}
 use Rattle.rl_safety.proofs.laws.right_reports.Goals as goal

@@ -7,12 +7,12 @@ use Rattle.rl_record.specs.declared.event.Turn.TheVariants.{Moved}
 use Rattle.rl_tables.specs.declared.table.Tables.{Tables}
 use Rattle.rl_tables.specs.Kept.{IsLine}
 use Rattle.rl_tables.specs.Starts.{layout_of}
-use Rattle.rl_runs.specs.Numbers.{node_at}
-use Rattle.rl_runs.specs.Run.{IsRun, state}
-use Rattle.rl_runs.specs.Step.{is_ready}
-use Rattle.rl_runs.specs.Turn.{Drive, answer_of}
-use Rattle.rl_runs.proofs.Keeping.{StepsKeep}
-use Rattle.rl_runs.proofs.Sounding.{runs_minded}
+use Rattle.rl_steps.specs.Numbers.{node_at}
+use Rattle.rl_steps.specs.Run.{IsRun, state}
+use Rattle.rl_steps.specs.Step.{is_ready}
+use Rattle.rl_steps.specs.Turn.{Drive, answer_of}
+use Rattle.rl_steps.proofs.Keeping.{StepsKeep}
+use Rattle.rl_steps.proofs.Sounding.{runs_minded}
 use Rattle.rl_safety.proofs.AtWork.{WorkLaws, busy_moves}
 use Rattle.rl_safety.proofs.Readable.{runs_size}
 use Rattle.rl_safety.proofs.work.boxes_at_work.Goals as goal

@@ -3,7 +3,7 @@ use Rattle.rl_model.specs.Safety.{IsKept}
 use Rattle.rl_model.specs.World.{start}
 use Rattle.rl_protocol.specs.Counts.{HasTrains}
 use Rattle.rl_protocol.specs.TableLine.{line_of}
-use Rattle.rl_runs.specs.Run.{state}
+use Rattle.rl_steps.specs.Run.{state}
 use Rattle.rl_safety.specs.Moves.{moves_of}
 use Rattle.rl_safety.specs.Reading.{read}
 use Rattle.rl_safety.proofs.KeptWorlds.{kept_after_moves}
