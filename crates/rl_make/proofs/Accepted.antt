@@ -141,11 +141,4 @@ accepted n few r (place.TrainRoute i) = neither_way (eqb r 5) _ _ (routes_short 
 accepted n few r (place.RouteItem i j) =
     neither_way (eqb r 13) _ _ (routes_named n i j)
     (neither_way (eqb r 14) _ _ (routes_fit n i j few) (and_last (eqb r 15) _ (and_last (eqb j 0) _ (starts_apart n i few))))
-accepted n few r place.None = refl
-accepted n few r place.Top = refl
-accepted n few r place.Format = refl
-accepted n few r (place.BoxItem i) = refl
-accepted n few r (place.BoxKind i) = refl
-accepted n few r (place.TrainItem i) = refl
-accepted n few r (place.ScheduleLine i) = refl
-accepted n few r (place.ReportLine i) = refl
+accepted n few r _ = refl
