@@ -12,7 +12,7 @@ use Rattle.rl_base.specs.Layout.{node_count}
 use Rattle.rl_record.specs.declared.event.Event.{Event}
 use Rattle.rl_record.specs.Merge.{history}
 use Rattle.rl_record.specs.Records.{Record}
-use Rattle.rl_lamport.specs.Records.{AreRecordsOf}
+use Rattle.rl_merge.specs.Records.{AreRecordsOf}
 use Rattle.rl_tables.specs.declared.table.Tables.{Tables}
 use Rattle.rl_tables.specs.Kept.{IsLine}
 use Rattle.rl_tables.specs.Starts.{layout_of}

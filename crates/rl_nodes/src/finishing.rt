@@ -8,7 +8,7 @@ ghost use Rattle.rl_nodes.specs.Finished.{records_of, minds_of, IsRunOf, state_o
 
 use crate::parts::{Part, Parts};
 use rl_base::{NoMemory, Sequence};
-use rl_lamport::merged_records;
+use rl_merge::merged_records;
 use rl_record::{Events, Records, merge};
 use rl_rule::{Rails, Words};
 use rl_safety::counted_events;

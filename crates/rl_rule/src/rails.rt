@@ -11,7 +11,7 @@ use crate::seats::{NodeSeat, next_stamp};
 use crate::views::Load;
 use atomic_table::{Closed, Table};
 use rl_base::{NoMemory, NodeNo, Sequence, WordNo};
-use rl_lamport::merged_runs;
+use rl_merge::merged_runs;
 use rl_record::Event;
 use rl_steps::{Mind, sound_runs, start_words, steps_of_owners};
 use rl_tables::Line;

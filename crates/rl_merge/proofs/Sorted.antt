@@ -7,8 +7,8 @@ use Rattle.rl_tables.specs.Kept.{IsLine}
 use Rattle.rl_steps.specs.State.{CoreState, after}
 use Rattle.rl_steps.specs.Run.{Fits, IsRun, state}
 use Rattle.rl_steps.proofs.Made.{fits_made}
-use Rattle.rl_lamport.proofs.Later.{Laws}
-use Rattle.rl_lamport.proofs.Insertion.{IsPlaced, insert}
+use Rattle.rl_merge.proofs.Later.{Laws}
+use Rattle.rl_merge.proofs.Insertion.{IsPlaced, insert}
 
 pub record IsSorted (tables : Tables) (tries : ℕ) (log all : List Event) : Type 0 where
   pub run : IsRun tables tries all

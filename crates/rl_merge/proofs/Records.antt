@@ -17,8 +17,8 @@ use Rattle.rl_tables.specs.declared.table.Tables.{Tables}
 use Rattle.rl_steps.specs.State.{CoreState, put}
 use Rattle.rl_steps.specs.Run.{IsRun, state}
 use Rattle.rl_steps.proofs.Made.{IsMade, fits_made}
-use Rattle.rl_lamport.specs.Records.{AreRecordsOf}
-use Rattle.rl_lamport.proofs.Exchange.{put_same, put_other}
+use Rattle.rl_merge.specs.Records.{AreRecordsOf}
+use Rattle.rl_merge.proofs.Exchange.{put_same, put_other}
 
 -- no event of a node has a stamp above the node's clock
 abbrev IsBelow : (ℕ → ℕ) → ℕ → List Event → Type 0

@@ -1,6 +1,6 @@
-use Rattle.rl_lamport.proofs.Later.{Laws}
-use Rattle.rl_lamport.proofs.Chaining.{run_chained, run_left}
-use Rattle.rl_lamport.proofs.laws.chains_of_runs.Goals as goal
+use Rattle.rl_merge.proofs.Later.{Laws}
+use Rattle.rl_merge.proofs.Chaining.{run_chained, run_left}
+use Rattle.rl_merge.proofs.laws.chains_of_runs.Goals as goal
 
 pub returns : goal.returns
 returns c =

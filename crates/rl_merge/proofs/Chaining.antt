@@ -14,10 +14,10 @@ use Rattle.rl_steps.specs.State.{CoreState, start, next_stamp}
 use Rattle.rl_steps.specs.Run.{IsRun, state}
 use Rattle.rl_steps.proofs.Made.{IsMade, fits_made}
 use Rattle.rl_steps.proofs.Options.{get_set_same, get_set_other, same_some}
-use Rattle.rl_lamport.specs.Chains.{mind_of, clock_of, IsStepOf, IsNodeChain, IsOn, Held, AreChained, AreLeft}
-use Rattle.rl_lamport.proofs.Later.{Laws, own_stamp}
-use Rattle.rl_lamport.proofs.Sorted.{sort}
-use Rattle.rl_lamport.proofs.Chained.{Word, word_at, IsLed, led_minds, led_clocks, own_history, other_history}
+use Rattle.rl_merge.specs.Chains.{mind_of, clock_of, IsStepOf, IsNodeChain, IsOn, Held, AreChained, AreLeft}
+use Rattle.rl_merge.proofs.Later.{Laws, own_stamp}
+use Rattle.rl_merge.proofs.Sorted.{sort}
+use Rattle.rl_merge.proofs.Chained.{Word, word_at, IsLed, led_minds, led_clocks, own_history, other_history}
 
 -- every run leads to the minds and the clocks of its histories
 led_run : (tables : Tables) (tries : ℕ) (log : List Event) → IsRun tables tries log → IsLed tables tries log

@@ -15,7 +15,7 @@ use Rattle.rl_steps.specs.Run.{IsRun, state}
 use Rattle.rl_steps.specs.Sound.{IsMindOf, IsSound}
 use Rattle.rl_steps.proofs.Made.{IsMade, fits_made}
 use Rattle.rl_steps.proofs.Options.{get_set_same, same_some}
-use Rattle.rl_lamport.proofs.Exchange.{Apart, put_same}
+use Rattle.rl_merge.proofs.Exchange.{Apart, put_same}
 
 -- what the proofs here use of runs, steps and words
 pub record Laws : Type 0 where

@@ -1,7 +1,7 @@
 ghost use Rattle.std.specs.Prelude.{◌≡◌, ℕ, ◌^◌, ◌<◌, ◌≤◌, List, Some, length, reverse, slice_get};
 ghost use Rattle.rl_record.specs.declared.event.Event.{Event};
-ghost use Rattle.rl_lamport.specs.Chains.{AreChained, AreLeft};
-ghost use Rattle.rl_lamport.specs.Records.{AreRecordsOf};
+ghost use Rattle.rl_merge.specs.Chains.{AreChained, AreLeft};
+ghost use Rattle.rl_merge.specs.Records.{AreRecordsOf};
 ghost use Rattle.rl_record.specs.Merge.{history, IsMerge};
 ghost use Rattle.rl_record.specs.Records.{Record, AreHistories, IsMergeOf};
 ghost use Rattle.rl_tables.specs.declared.table.Tables.{Tables};

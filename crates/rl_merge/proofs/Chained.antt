@@ -15,8 +15,8 @@ use Rattle.rl_steps.specs.State.{CoreState, start, next_stamp, mind_after, put}
 use Rattle.rl_steps.specs.Run.{Fits, IsRun, state}
 use Rattle.rl_steps.proofs.Made.{IsMade, fits_made}
 use Rattle.rl_steps.proofs.Options.{get_set_same, get_set_other}
-use Rattle.rl_lamport.specs.Chains.{mind_of, clock_of, IsStepOf, IsNodeChain, IsOn, Held, AreChained, AreLeft}
-use Rattle.rl_lamport.proofs.Exchange.{put_same, put_other, made_fits}
+use Rattle.rl_merge.specs.Chains.{mind_of, clock_of, IsStepOf, IsNodeChain, IsOn, Held, AreChained, AreLeft}
+use Rattle.rl_merge.proofs.Exchange.{put_same, put_other, made_fits}
 
 -- the history of the event's node, and of any other
 pub own_history : (e : Event) (log : List Event) (n : ℕ) → n ≡ e.node.0 → history n (e ∷ log) ≡ e ∷ history n log

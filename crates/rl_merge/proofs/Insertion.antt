@@ -10,8 +10,8 @@ use Rattle.rl_tables.specs.Kept.{IsLine}
 use Rattle.rl_steps.specs.State.{CoreState, after}
 use Rattle.rl_steps.specs.Run.{Fits, IsRun, state}
 use Rattle.rl_steps.proofs.Made.{IsMade, fits_made}
-use Rattle.rl_lamport.proofs.Exchange.{Apart, apart_back, made_before, made_after, made_fits, either_order}
-use Rattle.rl_lamport.proofs.Later.{Laws, Follows, apart}
+use Rattle.rl_merge.proofs.Exchange.{Apart, apart_back, made_before, made_after, made_fits, either_order}
+use Rattle.rl_merge.proofs.Later.{Laws, Follows, apart}
 
 -- the list is the run with the event in its place
 pub record IsPlaced (tables : Tables) (tries : ℕ) (e : Event) (earlier all : List Event) : Type 0 where
