@@ -1,7 +1,10 @@
 -- An event that can be made behind a sorted run has its place in it: the run with the event in that place leads to the
 -- same state.
-use Rattle.std.proofs.Common.{◌≡◌, ◌≢◌, ℕ, suc, ◌^◌, ◌<◌, ◌≤◌, ◌==◌, ◌⊎◌, inl, inr, Bool, true, false, cond, List, [], ◌∷◌, length, refl, sym, ap, ◌∙◌, subst, arith}
+use Rattle.std.proofs.Common.{◌≡◌, ◌≢◌, ℕ, suc, ◌^◌, ◌<◌, ◌≤◌, ◌==◌, ◌⊎◌, inl, inr, Bool}
+use Rattle.std.proofs.Common.{true, false, cond, List, [], ◌∷◌, length, refl, sym, ap, ◌∙◌, subst, arith}
 use Rattle.std.proofs.lemmas.Bool.Decides.{nat_tests, leb_tells}
+use Rattle.rl_base.specs.Numbers.{IsU32}
+use Rattle.rl_base.specs.Tries.{AreFewTries}
 use Rattle.rl_record.specs.declared.event.Event.{Event}
 use Rattle.rl_record.specs.Merge.{history, IsBefore, IsAfterAll, Falls}
 use Rattle.rl_record.proofs.Falling.{before_both}
@@ -103,8 +106,8 @@ place laws tables tries f earlier e follows falls deeper =
           past tables tries f earlier e follows falls other (no_later.1 other.nodes) (deeper other))
     ]
 
-pub insert : Laws → (tables : Tables) (tries : ℕ) → IsLine tables → tries ≤ 1000 → (e : Event) (earlier : List Event)
-    → Falls earlier → IsRun tables tries earlier → IsMade tables (state tables tries earlier) e → suc (length earlier) < 2 ^ 32
+pub insert : Laws → (tables : Tables) (tries : ℕ) → IsLine tables → AreFewTries tries → (e : Event) (earlier : List Event)
+    → Falls earlier → IsRun tables tries earlier → IsMade tables (state tables tries earlier) e → IsU32 (suc (length earlier))
     → Placed tables tries e earlier
 insert laws tables tries line few e [] falls run made room = (
   e ∷ [],
