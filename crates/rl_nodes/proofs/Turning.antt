@@ -14,7 +14,7 @@ use Rattle.rl_rule.specs.declared.rails.Rails.{Rails}
 use Rattle.rl_rule.specs.Seats.{walk_of}
 use Rattle.rl_runner.specs.Turns.{raised}
 use Rattle.rl_nodes.specs.Nodes.{Node, number, turns_of, IsWhole, node_of, IsHome, IsReady, is_train_at_rest}
-use Rattle.rl_nodes.specs.Turns.{scan_after, Looks, Idles, Moves, IsTurn, Finds}
+use Rattle.rl_nodes.specs.Turns.{scan_after, Looks, Idles, Moves, IsTurn, LoadFinds}
 use Rattle.rl_nodes.specs.Looks.{LeavesWord, ChangesWord}
 use Rattle.rl_nodes.proofs.Resting.{at_rest, awake}
 
@@ -29,7 +29,7 @@ node_same : (r : TableId) (l : Tables) (t : ℕ) (w v : Walk) (s z : ℕ) (g h :
 node_same r l t w v s z g h u x a b c d = rw (a, b, c, d) refl
 
 looks : (rails : Rails) (line : Tables) (seat : NodeSeat) (mind : Mind) (scan : ℕ) (log : Record) (turns w value : ℕ) → Parts rails line seat mind scan log
-    → target_of line (walk_of seat).node.0 mind scan ≡ Some w → Finds line (walk_of seat) w value
+    → target_of line (walk_of seat).node.0 mind scan ≡ Some w → LoadFinds line (walk_of seat) w value
     → Looks (node_of rails line seat scan log turns) w value
 looks rails line seat mind scan log turns w value parts target finds =
     let n = (walk_of seat).node.0 in

@@ -23,7 +23,7 @@ use Rattle.rl_rule.specs.Ruled.{IsFresh, IsWalk, Places, KnowsNode, IsRuled}
 use Rattle.rl_rule.proofs.Lists.{set_same, get_index}
 use Rattle.rl_rule.proofs.Known.{Laws}
 use Rattle.rl_rule.proofs.Tellings.{told}
-use Rattle.rl_rule.proofs.WordChains.{Runs}
+use Rattle.rl_rule.proofs.Runs.{Runs}
 use Rattle.rl_rule.proofs.Alone.{alone_value}
 use Rattle.rl_rule.proofs.Others.{few_in_log, as_role, from_role, as_view, root_kept, node_kept}
 

@@ -8,6 +8,7 @@ use mathlib.Core.Option.{some, some-injective, some-ne-none}
 use lib.ListN.{get_elem?}
 use Rattle.atomic_table.specs.Table.{Splits, Joins, opening}
 use Rattle.atomic_table.proofs.Lists.{at_set, set_here, set_else, at_longer, at_last}
+use Rattle.rl_base.specs.Tries.{AreFewTries}
 use Rattle.rl_base.specs.Layout.{word_count, node_count}
 use Rattle.rl_record.specs.declared.event.Event.{Event}
 use Rattle.rl_record.specs.Merge.{history}
@@ -39,7 +40,7 @@ start_knows tables tries zero view at =
     (record { first = refl; line = refl; tries_are = refl; handed = refl; kept = tt; taken = λ n. sym (nothing_taken n) })
 start_knows tables tries (suc seat) view at = absurd (some-ne-none view (sym at))
 
-pub start_keeps : (tables : Tables) (tries : ℕ) → IsLine tables → tries ≤ 1000 →
+pub start_keeps : (tables : Tables) (tries : ℕ) → IsLine tables → AreFewTries tries →
     IsRuled tables tries (opening (start_words tables (word_count (layout_of tables))) [] (root_view tables tries))
 start_keeps tables tries line few =
     record {

@@ -1,4 +1,5 @@
 ghost use Rattle.std.specs.Prelude.{◌≡◌, ◌<◌, ◌≤◌, All, length, reverse, IfOk};
+ghost use Rattle.rl_base.specs.Tries.{AreFewTries};
 ghost use Rattle.rl_base.specs.Layout.{node_count, word_count};
 ghost use Rattle.rl_core.specs.Reports.{AreMindsAfter};
 ghost use Rattle.rl_steps.specs.Run.{IsRun};
@@ -37,7 +38,7 @@ pub fn report_of_events(
     events: &[Event],
     minds: &[Mind],
 ) -> Result<Report, NoMemory>
-    requires few_tries { tries ≤ 1000 }
+    requires few_tries { AreFewTries tries }
     requires run { IsRun line.now tries (reverse events.now) }
     requires minds { AreMindsAfter line.now tries (reverse events.now) minds.now }
     requires nodes { length minds.now ≡ node_count (layout_of line.now) }

@@ -1,7 +1,7 @@
 use Rattle.std.proofs.Common.{ap, ◌∙◌, ◌++◌, ◌∷◌, [], List, ℕ, sym, arith}
 use Rattle.core.specs.Mem.Slots.{slots_items}
 use Rattle.rl_rule.proofs.Lists.{take_next}
-use Rattle.rl_rule.proofs.rails.words_of.Goals as goal
+use Rattle.rl_rule.proofs.rails.closed_words.Goals as goal
 
 pub loop-w-preserved : goal.loop-w-preserved
 loop-w-preserved c =

@@ -1,7 +1,10 @@
 -- The histories of a run are chained.
-use Rattle.std.proofs.Common.{◌≡◌, ℕ, suc, ◌^◌, ◌<◌, ◌≤◌, max, ◌⊎◌, inl, inr, List, [], ◌∷◌, length, slice_get, slice_set, Some, refl, sym, ap, ◌∙◌, subst, arith}
+use Rattle.std.proofs.Common.{◌≡◌, ℕ, suc, ◌^◌, ◌<◌, ◌≤◌, max, ◌⊎◌, inl, inr, List}
+use Rattle.std.proofs.Common.{[], ◌∷◌, length, slice_get, slice_set, Some, refl, sym, ap, ◌∙◌, subst, arith}
 use Rattle.std.proofs.Math.Path.{fun_ext}
 use Rattle.std.proofs.lemmas.Bool.{cases_eq}
+use Rattle.rl_base.specs.Numbers.{IsU32}
+use Rattle.rl_base.specs.Tries.{AreFewTries}
 use Rattle.rl_words.specs.Stamps.{stamp_in, payload_in}
 use Rattle.rl_record.specs.declared.event.Event.{Event}
 use Rattle.rl_record.specs.Merge.{history, Falls}
@@ -14,13 +17,13 @@ use Rattle.rl_steps.specs.State.{CoreState, start, next_stamp}
 use Rattle.rl_steps.specs.Run.{IsRun, state}
 use Rattle.rl_steps.proofs.Made.{IsMade, fits_made}
 use Rattle.rl_steps.proofs.Options.{get_set_same, get_set_other, same_some}
-use Rattle.rl_lamport.specs.Chains.{mind_of, clock_of, IsStepOf, IsNodeChain, IsOn, Held, AreChained, AreLeft}
-use Rattle.rl_lamport.proofs.Later.{Laws, own_stamp}
-use Rattle.rl_lamport.proofs.Sorted.{sort}
-use Rattle.rl_lamport.proofs.Chained.{Word, word_at, IsLed, led_minds, led_clocks, own_history, other_history}
+use Rattle.rl_merge.specs.Chains.{mind_left, clock_left, IsNodeStep, IsNodeChain, IsOn, HeldBefore, AreChained, AreLeft}
+use Rattle.rl_merge.proofs.Later.{Laws, own_stamp}
+use Rattle.rl_merge.proofs.Sorted.{sort}
+use Rattle.rl_merge.proofs.Chained.{Word, word_at, IsLed, led_minds, led_clocks, own_history, other_history}
 
 -- every run leads to the minds and the clocks of its histories
-led_run : (tables : Tables) (tries : ℕ) (log : List Event) → IsRun tables tries log → IsLed tables tries log
+pub led_run : (tables : Tables) (tries : ℕ) (log : List Event) → IsRun tables tries log → IsLed tables tries log
 led_run tables tries [] run = record { run = tt; minds = λ n. refl; clocks = λ n. refl }
 led_run tables tries (e ∷ log) run =
     let before = led_run tables tries log run.0 in
@@ -28,7 +31,7 @@ led_run tables tries (e ∷ log) run =
 
 -- and its histories are chained by node
 one_step : (tables : Tables) (tries : ℕ) (e : Event) (log : List Event) → IsRun tables tries (e ∷ log)
-    → IsStepOf tables e.node.0 (clock_of (history e.node.0 log)) (mind_of tables tries e.node.0 (history e.node.0 log)) e
+    → IsNodeStep tables e.node.0 (clock_left (history e.node.0 log)) (mind_left tables tries e.node.0 (history e.node.0 log)) e
 one_step tables tries e log run =
     let led = led_run tables tries log run.0 in
     let made = fits_made tables (state tables tries log) e run.1 in
@@ -48,7 +51,7 @@ node_chain tables tries (e ∷ log) run n =
     let Chain : List Event → Type 0 = λ l. IsNodeChain tables tries n l in
     elim (cases_eq n e.node.0) [
       | inl same ↦ (
-          let Own : ℕ → Type 0 = λ k. IsStepOf tables k (clock_of (history k log)) (mind_of tables tries k (history k log)) e in
+          let Own : ℕ → Type 0 = λ k. IsNodeStep tables k (clock_left (history k log)) (mind_left tables tries k (history k log)) e in
           subst Chain (sym (own_history e log n same)) (node_chain tables tries log run.0 n, subst Own (sym same) (one_step tables tries e log run)))
       | inr other ↦ subst Chain (sym (other_history e log n other)) (node_chain tables tries log run.0 n)
     ]
@@ -56,13 +59,13 @@ node_chain tables tries (e ∷ log) run n =
 -- the premises on a run
 record IsSoundRun (tables : Tables) (tries : ℕ) (log : List Event) : Type 0 where
   pub line : IsLine tables
-  pub few : tries ≤ 1000
-  pub room : length log < 2 ^ 32
+  pub few : AreFewTries tries
+  pub room : IsU32 (length log)
   pub run : IsRun tables tries log
 
 rest_sound : (tables : Tables) (tries : ℕ) (e : Event) (log : List Event) → IsSoundRun tables tries (e ∷ log) → IsSoundRun tables tries log
 rest_sound tables tries e log sound =
-    let room : length (e ∷ log) < 2 ^ 32 = sound.room in
+    let room : IsU32 (length (e ∷ log)) = sound.room in
     record { line = sound.line; few = sound.few; room = omega arith; run = sound.run.0 }
 
 -- no event on a word has a stamp above the word's
@@ -218,7 +221,7 @@ on_has log w e on = (has_from_history e.node.0 log e (has_from_contains (history
 has_on : (log : List Event) (w : ℕ) (e : Event) → Has log e → e.word.0 ≡ w → IsOn (of_log log) w e
 has_on log w e h word = record { there = contains_from_has (history e.node.0 log) e (has_in_history log e h); word = word }
 
-held : (tables : Tables) (tries : ℕ) (log : List Event) (w s v : ℕ) → HeldIn tables tries log w s v → Held tables tries (of_log log) w s v
+held : (tables : Tables) (tries : ℕ) (log : List Event) (w s v : ℕ) → HeldIn tables tries log w s v → HeldBefore tables tries (of_log log) w s v
 held tables tries log w s v (inl (e, latest, is)) =
     inl (
       e,
@@ -238,7 +241,7 @@ sorted_chained laws tables tries log sound falls =
       nodes = node_chain tables tries log sound.run;
       apart = λ w e f a b. apart_in laws tables tries log sound e f (on_has log w e a) (on_has log w f b) (a.word ∙ sym b.word);
       found = λ w e on.
-          let At : ℕ → Type 0 = λ k. Held tables tries (of_log log) k e.stamp e.was in
+          let At : ℕ → Type 0 = λ k. HeldBefore tables tries (of_log log) k e.stamp e.was in
           subst At on.word (held tables tries log e.word.0 e.stamp e.was (found_in laws tables tries log sound falls e (on_has log w e on)));
     }
 
@@ -251,7 +254,7 @@ sorted_left tables tries log run falls =
       minds_are = (led_run tables tries log run).minds;
     }
 
-pub run_chained : Laws → (tables : Tables) (tries : ℕ) (log : List Event) → IsLine tables → tries ≤ 1000 → length log < 2 ^ 32 → IsRun tables tries log
+pub run_chained : Laws → (tables : Tables) (tries : ℕ) (log : List Event) → IsLine tables → AreFewTries tries → IsU32 (length log) → IsRun tables tries log
     → AreChained tables tries (λ n. history n log)
 run_chained laws tables tries log line few room run =
     let (all, sorted) = sort laws tables tries line few log run room in
@@ -259,7 +262,7 @@ run_chained laws tables tries log line few room run =
     let Chained : (ℕ → List Event) → Type 0 = λ h. AreChained tables tries h in
     subst Chained (fun_ext sorted.merge.parts) (sorted_chained laws tables tries all sound sorted.merge.falls)
 
-pub run_left : Laws → (tables : Tables) (tries : ℕ) (log : List Event) → IsLine tables → tries ≤ 1000 → length log < 2 ^ 32 → IsRun tables tries log
+pub run_left : Laws → (tables : Tables) (tries : ℕ) (log : List Event) → IsLine tables → AreFewTries tries → IsU32 (length log) → IsRun tables tries log
     → AreLeft tables tries (λ n. history n log) (state tables tries log).words (state tables tries log).minds
 run_left laws tables tries log line few room run =
     let (all, sorted) = sort laws tables tries line few log run room in

@@ -1,7 +1,7 @@
 use Rattle.std.proofs.Common.{◌≡◌, ◌≤◌, take}
 use Rattle.std.specs.Vec.{vec_capacity}
 use Rattle.core.specs.Mem.Slots.{slots_items, slots_len}
-use Rattle.rl_rule.proofs.rails.words_of.Given as goal
+use Rattle.rl_rule.proofs.rails.closed_words.Given as goal
 
 abbrev pub invariant-loop-w : goal.invariant-loop-w
 invariant-loop-w l =

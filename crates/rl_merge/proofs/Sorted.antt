@@ -1,5 +1,7 @@
 -- Every run, sorted by stamps and nodes, is a run that leads to the same state.
 use Rattle.std.proofs.Common.{◌≡◌, ℕ, suc, ◌^◌, ◌<◌, ◌≤◌, ◌==◌, cond, List, [], ◌∷◌, length, refl, sym, ap, ◌∙◌, subst, arith}
+use Rattle.rl_base.specs.Numbers.{IsU32}
+use Rattle.rl_base.specs.Tries.{AreFewTries}
 use Rattle.rl_record.specs.declared.event.Event.{Event}
 use Rattle.rl_record.specs.Merge.{history, IsMerge}
 use Rattle.rl_tables.specs.declared.table.Tables.{Tables}
@@ -7,8 +9,8 @@ use Rattle.rl_tables.specs.Kept.{IsLine}
 use Rattle.rl_steps.specs.State.{CoreState, after}
 use Rattle.rl_steps.specs.Run.{Fits, IsRun, state}
 use Rattle.rl_steps.proofs.Made.{fits_made}
-use Rattle.rl_lamport.proofs.Later.{Laws}
-use Rattle.rl_lamport.proofs.Insertion.{IsPlaced, insert}
+use Rattle.rl_merge.proofs.Later.{Laws}
+use Rattle.rl_merge.proofs.Insertion.{IsPlaced, insert}
 
 pub record IsSorted (tables : Tables) (tries : ℕ) (log all : List Event) : Type 0 where
   pub run : IsRun tables tries all
@@ -30,7 +32,7 @@ one_more tables tries e log all more sorted placed =
       size = placed.size ∙ ap suc sorted.size;
     }
 
-pub sort : Laws → (tables : Tables) (tries : ℕ) → IsLine tables → tries ≤ 1000 → (log : List Event) → IsRun tables tries log → length log < 2 ^ 32
+pub sort : Laws → (tables : Tables) (tries : ℕ) → IsLine tables → AreFewTries tries → (log : List Event) → IsRun tables tries log → IsU32 (length log)
     → (all : List Event) × IsSorted tables tries log all
 sort laws tables tries line few [] run room =
     ([], record { run = tt; state_is = refl; merge = record { falls = tt; parts = λ n. refl }; size = refl })
@@ -42,7 +44,7 @@ sort laws tables tries line few (e ∷ log) run room =
     (more, one_more tables tries e log all more sorted placed)
 
 pub merged_run : Laws → ((h : ℕ → List Event) (a b : List Event) → IsMerge h a → IsMerge h b → a ≡ b)
-    → (tables : Tables) (tries : ℕ) (log merged : List Event) → IsLine tables → tries ≤ 1000 → length log < 2 ^ 32
+    → (tables : Tables) (tries : ℕ) (log merged : List Event) → IsLine tables → AreFewTries tries → IsU32 (length log)
     → IsRun tables tries log → IsMerge (λ n. history n log) merged
     → IsRun tables tries merged × (state tables tries merged ≡ state tables tries log)
 merged_run laws only tables tries log merged line few room run merge =

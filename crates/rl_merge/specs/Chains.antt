@@ -10,18 +10,18 @@ use Rattle.rl_steps.specs.Step.{node_step}
 use Rattle.rl_steps.specs.State.{start, start_mind, next_stamp}
 
 -- the mind and the clock of node n after its history, newest first
-abbrev pub mind_of : Tables → ℕ → ℕ → List Event → Mind
-mind_of tables tries n [] = start_mind tables tries n
-mind_of tables tries n (e ∷ earlier) =
-    option_map_or (λ r. r.1) (node_step tables n (mind_of tables tries n earlier) e.word.0 (payload_in e.was))
-    (mind_of tables tries n earlier)
+abbrev pub mind_left : Tables → ℕ → ℕ → List Event → Mind
+mind_left tables tries n [] = start_mind tables tries n
+mind_left tables tries n (e ∷ earlier) =
+    option_map_or (λ r. r.1) (node_step tables n (mind_left tables tries n earlier) e.word.0 (payload_in e.was))
+    (mind_left tables tries n earlier)
 
-abbrev pub clock_of : List Event → ℕ
-clock_of [] = 0
-clock_of (e ∷ earlier) = e.stamp
+abbrev pub clock_left : List Event → ℕ
+clock_left [] = 0
+clock_left (e ∷ earlier) = e.stamp
 
 -- the event is the step of node n, with this clock and this mind, on the whole word that it found
-pub record IsStepOf (tables : Tables) (n clock : ℕ) (mind : Mind) (e : Event) : Type 0 where
+pub record IsNodeStep (tables : Tables) (n clock : ℕ) (mind : Mind) (e : Event) : Type 0 where
   pub made : ℕ × Mind
   pub node : e.node.0 ≡ n
   pub step : node_step tables n mind e.word.0 (payload_in e.was) ≡ Some made
@@ -33,7 +33,7 @@ abbrev pub IsNodeChain : Tables → ℕ → ℕ → List Event → Type 0
 IsNodeChain tables tries n [] = Unit {0}
 IsNodeChain tables tries n (e ∷ earlier) =
     IsNodeChain tables tries n earlier
-    × IsStepOf tables n (clock_of earlier) (mind_of tables tries n earlier) e
+    × IsNodeStep tables n (clock_left earlier) (mind_left tables tries n earlier) e
 
 -- the event stands in the history of its node, and is one on word w
 pub record IsOn (h : ℕ → List Event) (w : ℕ) (e : Event) : Type 0 where
@@ -52,17 +52,17 @@ pub record IsUntouched (tables : Tables) (tries : ℕ) (h : ℕ → List Event) 
   pub began : slice_get (start tables tries).words w ≡ Some v
 
 -- what word w held where all events with a stamp below s had been made
-abbrev pub Held : Tables → ℕ → (ℕ → List Event) → (w s v : ℕ) → Type 0
-Held tables tries h w s v = ((e : Event) × IsLatest h w s e × (e.now ≡ v)) ⊎ IsUntouched tables tries h w s v
+abbrev pub HeldBefore : Tables → ℕ → (ℕ → List Event) → (w s v : ℕ) → Type 0
+HeldBefore tables tries h w s v = ((e : Event) × IsLatest h w s e × (e.now ≡ v)) ⊎ IsUntouched tables tries h w s v
 
 -- the histories are chained: by node, and by word
 pub record AreChained (tables : Tables) (tries : ℕ) (h : ℕ → List Event) : Type 0 where
   pub nodes : (n : ℕ) → IsNodeChain tables tries n (h n)
   pub apart : (w : ℕ) (e f : Event) → IsOn h w e → IsOn h w f → e.stamp ≡ f.stamp → e ≡ f
-  pub found : (w : ℕ) (e : Event) → IsOn h w e → Held tables tries h w e.stamp e.was
+  pub found : (w : ℕ) (e : Event) → IsOn h w e → HeldBefore tables tries h w e.stamp e.was
 
 -- the words and the minds are those that chained histories leave
 pub record AreLeft (tables : Tables) (tries : ℕ) (h : ℕ → List Event) (words : List ℕ) (minds : ℕ → Mind) : Type 0 where
   pub words_are : (w v s : ℕ) → slice_get words w ≡ Some v → ((e : Event) → IsOn h w e → e.stamp < s)
-      → Held tables tries h w s v
-  pub minds_are : (n : ℕ) → minds n ≡ mind_of tables tries n (h n)
+      → HeldBefore tables tries h w s v
+  pub minds_are : (n : ℕ) → minds n ≡ mind_left tables tries n (h n)

@@ -1,5 +1,6 @@
 -- The merge of the records of a run is the merge of its histories.
-use Rattle.std.proofs.Common.{◌≡◌, ◌≢◌, ℕ, zero, suc, ◌<◌, ◌≤◌, ◌==◌, max, ◌⊎◌, inl, inr, Bool, true, false, cond, List, [], ◌∷◌, ◌++◌, length, reverse, All, slice_get, slice_index_or, Some, refl, sym, ap, ◌∙◌, subst, arith}
+use Rattle.std.proofs.Common.{◌≡◌, ◌≢◌, ℕ, zero, suc, ◌<◌, ◌≤◌, ◌==◌, max, ◌⊎◌, inl, inr, Bool, true, false, cond}
+use Rattle.std.proofs.Common.{List, [], ◌∷◌, ◌++◌, length, reverse, All, slice_get, slice_index_or, Some, refl, sym, ap, ◌∙◌, subst, arith}
 use Rattle.std.proofs.lemmas.Bool.{cases_eq}
 use Rattle.std.proofs.lemmas.Bool.Decides.{nat_tests, leb_tells}
 use Rattle.std.proofs.lemmas.Grind.{reverse_onto}
@@ -17,8 +18,8 @@ use Rattle.rl_tables.specs.declared.table.Tables.{Tables}
 use Rattle.rl_steps.specs.State.{CoreState, put}
 use Rattle.rl_steps.specs.Run.{IsRun, state}
 use Rattle.rl_steps.proofs.Made.{IsMade, fits_made}
-use Rattle.rl_lamport.specs.Records.{AreRecordsOf}
-use Rattle.rl_lamport.proofs.Exchange.{put_same, put_other}
+use Rattle.rl_merge.specs.Records.{AreRecordsOf}
+use Rattle.rl_merge.proofs.Exchange.{put_same, put_other}
 
 -- no event of a node has a stamp above the node's clock
 abbrev IsBelow : (ℕ → ℕ) → ℕ → List Event → Type 0

@@ -1,5 +1,7 @@
 -- Stamps follow cause: a later event of the same node, or on the same word, has a greater stamp.
 use Rattle.std.proofs.Common.{◌≡◌, ℕ, suc, ◌^◌, ◌<◌, ◌≤◌, max, List, ◌∷◌, length, slice_get, slice_set, Some, sym, ap, ◌∙◌, subst, arith}
+use Rattle.rl_base.specs.Numbers.{IsU32}
+use Rattle.rl_base.specs.Tries.{AreFewTries}
 use Rattle.rl_base.specs.declared.layout.NodeKind.{NodeKind}
 use Rattle.rl_record.specs.declared.event.Event.{Event}
 use Rattle.rl_words.specs.Owner.{Owns}
@@ -15,22 +17,22 @@ use Rattle.rl_steps.specs.Run.{IsRun, state}
 use Rattle.rl_steps.specs.Sound.{IsMindOf, IsSound}
 use Rattle.rl_steps.proofs.Made.{IsMade, fits_made}
 use Rattle.rl_steps.proofs.Options.{get_set_same, same_some}
-use Rattle.rl_lamport.proofs.Exchange.{Apart, put_same}
+use Rattle.rl_merge.proofs.Exchange.{Apart, put_same}
 
 -- what the proofs here use of runs, steps and words
 pub record Laws : Type 0 where
-  pub sound : (tables : Tables) (tries : ℕ) (events : List Event) → IsLine tables → tries ≤ 1000 → length events < 2 ^ 32
+  pub sound : (tables : Tables) (tries : ℕ) (events : List Event) → IsLine tables → AreFewTries tries → IsU32 (length events)
       → IsRun tables tries events → IsSound tables (length events) (state tables tries events)
   pub steps : (tables : Tables) (n w payload new : ℕ) (mind after : Mind) → IsLine tables
       → ((node : NodeKind) → node_at (layout_of tables) n ≡ Some node → IsMindOf tables node mind)
-      → node_step tables n mind w payload ≡ Some (new, after) → Owns (layout_of tables) w payload n × (new < 2 ^ 32)
-  pub stamp : (stamp payload : ℕ) → stamp < 2 ^ 32 → payload < 2 ^ 32 → stamp_in (stamped stamp payload) ≡ stamp
+      → node_step tables n mind w payload ≡ Some (new, after) → Owns (layout_of tables) w payload n × IsU32 new
+  pub stamp : (stamp payload : ℕ) → IsU32 stamp → IsU32 payload → stamp_in (stamped stamp payload) ≡ stamp
 
 -- the event stands first in a run, and another can be made behind it
 pub record Follows (tables : Tables) (tries : ℕ) (f : Event) (earlier : List Event) (e : Event) : Type 0 where
   pub line : IsLine tables
-  pub few : tries ≤ 1000
-  pub room : length (f ∷ earlier) < 2 ^ 32
+  pub few : AreFewTries tries
+  pub room : IsU32 (length (f ∷ earlier))
   pub run : IsRun tables tries (f ∷ earlier)
   pub made : IsMade tables (state tables tries (f ∷ earlier)) e
 
@@ -53,8 +55,8 @@ same_word tables c f e first now made same =
     omega arith
 
 -- an event's word has its stamp
-pub own_stamp : Laws → (tables : Tables) (tries : ℕ) (f : Event) (earlier : List Event) → IsLine tables → tries ≤ 1000
-    → length (f ∷ earlier) < 2 ^ 32 → IsRun tables tries (f ∷ earlier) → stamp_in f.now ≡ f.stamp
+pub own_stamp : Laws → (tables : Tables) (tries : ℕ) (f : Event) (earlier : List Event) → IsLine tables → AreFewTries tries
+    → IsU32 (length (f ∷ earlier)) → IsRun tables tries (f ∷ earlier) → stamp_in f.now ≡ f.stamp
 own_stamp laws tables tries f earlier line few room run =
     let c = state tables tries earlier in
     let first = fits_made tables c f run.1 in

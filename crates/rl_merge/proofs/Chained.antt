@@ -1,5 +1,6 @@
 -- Chained histories: their merge is a run, and leads to what the chains say.
-use Rattle.std.proofs.Common.{◌≡◌, ◌≢◌, ℕ, suc, ◌<◌, ◌≤◌, ◌==◌, ◌⊎◌, inl, inr, Bool, true, false, cond, List, [], ◌∷◌, Contains, slice_get, slice_set, Some, refl, sym, ap, ◌∙◌, subst, arith}
+use Rattle.std.proofs.Common.{◌≡◌, ◌≢◌, ℕ, suc, ◌<◌, ◌≤◌, ◌==◌, ◌⊎◌, inl, inr, Bool, true, false}
+use Rattle.std.proofs.Common.{cond, List, [], ◌∷◌, Contains, slice_get, slice_set, Some, refl, sym, ap, ◌∙◌, subst, arith}
 use Rattle.std.specs.Option.{option_map_or}
 use Rattle.std.proofs.lemmas.Bool.{cases_eq, ne_eqb}
 use Rattle.std.proofs.lemmas.Bool.Decides.{nat_tests}
@@ -15,8 +16,8 @@ use Rattle.rl_steps.specs.State.{CoreState, start, next_stamp, mind_after, put}
 use Rattle.rl_steps.specs.Run.{Fits, IsRun, state}
 use Rattle.rl_steps.proofs.Made.{IsMade, fits_made}
 use Rattle.rl_steps.proofs.Options.{get_set_same, get_set_other}
-use Rattle.rl_lamport.specs.Chains.{mind_of, clock_of, IsStepOf, IsNodeChain, IsOn, Held, AreChained, AreLeft}
-use Rattle.rl_lamport.proofs.Exchange.{put_same, put_other, made_fits}
+use Rattle.rl_merge.specs.Chains.{mind_left, clock_left, IsNodeStep, IsNodeChain, IsOn, HeldBefore, AreChained, AreLeft}
+use Rattle.rl_merge.proofs.Exchange.{put_same, put_other, made_fits}
 
 -- the history of the event's node, and of any other
 pub own_history : (e : Event) (log : List Event) (n : ℕ) → n ≡ e.node.0 → history n (e ∷ log) ≡ e ∷ history n log
@@ -133,7 +134,7 @@ record Covers (h : ℕ → List Event) (log : List Event) (w s : ℕ) : Type 0 w
   pub all : (x : Event) → IsOn h w x → x.stamp < s → Has log x
 
 held_word : (tables : Tables) (tries : ℕ) (h : ℕ → List Event) (log : List Event) (w s v : ℕ) → AreChained tables tries h → IsBeginning tables tries h log
-    → Covers h log w s → Held tables tries h w s v → Word tables tries log w → slice_get (state tables tries log).words w ≡ Some v
+    → Covers h log w s → HeldBefore tables tries h w s v → Word tables tries log w → slice_get (state tables tries log).words w ≡ Some v
 held_word tables tries h log w s v chained begins covers (inl (f, latest, is)) (inl (g, newest)) =
     let on : IsOn h w g = record { there = begins.inside g newest.there; word = newest.word } in
     let low : g.stamp ≤ f.stamp = latest.greatest g on (covers.below g newest.there newest.word) in
@@ -185,11 +186,11 @@ next_word tables tries h e log chained whole run =
 -- the minds and clocks of a beginning are those of its histories
 pub record IsLed (tables : Tables) (tries : ℕ) (log : List Event) : Type 0 where
   pub run : IsRun tables tries log
-  pub minds : (n : ℕ) → (state tables tries log).minds n ≡ mind_of tables tries n (history n log)
-  pub clocks : (n : ℕ) → (state tables tries log).clocks n ≡ clock_of (history n log)
+  pub minds : (n : ℕ) → (state tables tries log).minds n ≡ mind_left tables tries n (history n log)
+  pub clocks : (n : ℕ) → (state tables tries log).clocks n ≡ clock_left (history n log)
 
 own_step : (tables : Tables) (tries : ℕ) (h : ℕ → List Event) (e : Event) (log : List Event) → IsBeginning tables tries h (e ∷ log)
-    → IsStepOf tables e.node.0 (clock_of (history e.node.0 log)) (mind_of tables tries e.node.0 (history e.node.0 log)) e
+    → IsNodeStep tables e.node.0 (clock_left (history e.node.0 log)) (mind_left tables tries e.node.0 (history e.node.0 log)) e
 own_step tables tries h e log whole =
     let Chain : List Event → Type 0 = λ l. IsNodeChain tables tries e.node.0 l in
     (subst Chain (own_history e log e.node.0 refl) (whole.nodes e.node.0)).1
@@ -212,7 +213,7 @@ next_made tables tries h e log chained whole led =
     }
 
 pub led_minds : (tables : Tables) (tries : ℕ) (e : Event) (log : List Event) → IsLed tables tries log
-    → (n : ℕ) → (state tables tries (e ∷ log)).minds n ≡ mind_of tables tries n (history n (e ∷ log))
+    → (n : ℕ) → (state tables tries (e ∷ log)).minds n ≡ mind_left tables tries n (history n (e ∷ log))
 led_minds tables tries e log led n =
     let c = state tables tries log in
     elim (cases_eq n e.node.0) [
@@ -221,23 +222,23 @@ led_minds tables tries e log led n =
           let After : Mind → Mind = λ m. option_map_or (λ (r : ℕ × Mind). r.1) (node_step tables e.node.0 m e.word.0 (payload_in e.was)) m in
           let now : put c.minds e.node.0 (mind_after tables c e) n ≡ mind_after tables c e =
           subst MindAt (sym same) (put_same c.minds e.node.0 (mind_after tables c e)) in
-          let before : c.minds e.node.0 ≡ mind_of tables tries e.node.0 (history e.node.0 log) = led.minds e.node.0 in
-          let there : After (mind_of tables tries e.node.0 (history e.node.0 log)) ≡ mind_of tables tries n (e ∷ history n log) =
-          ap (λ (k : ℕ). mind_of tables tries k (e ∷ history k log)) (sym same) in
-          now ∙ ap After before ∙ there ∙ ap (λ (l : List Event). mind_of tables tries n l) (sym (own_history e log n same)))
+          let before : c.minds e.node.0 ≡ mind_left tables tries e.node.0 (history e.node.0 log) = led.minds e.node.0 in
+          let there : After (mind_left tables tries e.node.0 (history e.node.0 log)) ≡ mind_left tables tries n (e ∷ history n log) =
+          ap (λ (k : ℕ). mind_left tables tries k (e ∷ history k log)) (sym same) in
+          now ∙ ap After before ∙ there ∙ ap (λ (l : List Event). mind_left tables tries n l) (sym (own_history e log n same)))
       | inr other ↦ put_other c.minds e.node.0 (mind_after tables c e) n other ∙ led.minds n
-          ∙ ap (λ (l : List Event). mind_of tables tries n l) (sym (other_history e log n other))
+          ∙ ap (λ (l : List Event). mind_left tables tries n l) (sym (other_history e log n other))
     ]
 
 pub led_clocks : (tables : Tables) (tries : ℕ) (e : Event) (log : List Event) → IsLed tables tries log
-    → (n : ℕ) → (state tables tries (e ∷ log)).clocks n ≡ clock_of (history n (e ∷ log))
+    → (n : ℕ) → (state tables tries (e ∷ log)).clocks n ≡ clock_left (history n (e ∷ log))
 led_clocks tables tries e log led n =
     let c = state tables tries log in
     elim (cases_eq n e.node.0) [
       | inl same ↦ (
           let Clock : ℕ → Type 0 = λ m. put c.clocks e.node.0 e.stamp m ≡ e.stamp in
-          subst Clock (sym same) (put_same c.clocks e.node.0 e.stamp) ∙ ap clock_of (sym (own_history e log n same)))
-      | inr other ↦ put_other c.clocks e.node.0 e.stamp n other ∙ led.clocks n ∙ ap clock_of (sym (other_history e log n other))
+          subst Clock (sym same) (put_same c.clocks e.node.0 e.stamp) ∙ ap clock_left (sym (own_history e log n same)))
+      | inr other ↦ put_other c.clocks e.node.0 e.stamp n other ∙ led.clocks n ∙ ap clock_left (sym (other_history e log n other))
     ]
 
 led : (tables : Tables) (tries : ℕ) (h : ℕ → List Event) (log : List Event) → AreChained tables tries h → IsBeginning tables tries h log
@@ -291,7 +292,7 @@ pub chained_minds : (tables : Tables) (tries : ℕ) (h : ℕ → List Event) (me
     → AreLeft tables tries h words minds → (n : ℕ) → (state tables tries merged).minds n ≡ minds n
 chained_minds tables tries h merged words minds chained merge left n =
     (led tables tries h merged chained (begins tables tries h merged chained merge)).minds n
-    ∙ ap (λ (l : List Event). mind_of tables tries n l) (merge.parts n)
+    ∙ ap (λ (l : List Event). mind_left tables tries n l) (merge.parts n)
     ∙ sym (left.minds_are n)
 
 pub chained_words : (tables : Tables) (tries : ℕ) (h : ℕ → List Event) (merged : List Event) (words : List ℕ) (minds : ℕ → Mind)

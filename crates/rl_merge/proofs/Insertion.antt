@@ -1,7 +1,10 @@
 -- An event that can be made behind a sorted run has its place in it: the run with the event in that place leads to the
 -- same state.
-use Rattle.std.proofs.Common.{◌≡◌, ◌≢◌, ℕ, suc, ◌^◌, ◌<◌, ◌≤◌, ◌==◌, ◌⊎◌, inl, inr, Bool, true, false, cond, List, [], ◌∷◌, length, refl, sym, ap, ◌∙◌, subst, arith}
+use Rattle.std.proofs.Common.{◌≡◌, ◌≢◌, ℕ, suc, ◌^◌, ◌<◌, ◌≤◌, ◌==◌, ◌⊎◌, inl, inr, Bool}
+use Rattle.std.proofs.Common.{true, false, cond, List, [], ◌∷◌, length, refl, sym, ap, ◌∙◌, subst, arith}
 use Rattle.std.proofs.lemmas.Bool.Decides.{nat_tests, leb_tells}
+use Rattle.rl_base.specs.Numbers.{IsU32}
+use Rattle.rl_base.specs.Tries.{AreFewTries}
 use Rattle.rl_record.specs.declared.event.Event.{Event}
 use Rattle.rl_record.specs.Merge.{history, IsBefore, IsAfterAll, Falls}
 use Rattle.rl_record.proofs.Falling.{before_both}
@@ -10,8 +13,8 @@ use Rattle.rl_tables.specs.Kept.{IsLine}
 use Rattle.rl_steps.specs.State.{CoreState, after}
 use Rattle.rl_steps.specs.Run.{Fits, IsRun, state}
 use Rattle.rl_steps.proofs.Made.{IsMade, fits_made}
-use Rattle.rl_lamport.proofs.Exchange.{Apart, apart_back, made_before, made_after, made_fits, either_order}
-use Rattle.rl_lamport.proofs.Later.{Laws, Follows, apart}
+use Rattle.rl_merge.proofs.Exchange.{Apart, apart_back, made_before, made_after, made_fits, either_order}
+use Rattle.rl_merge.proofs.Later.{Laws, Follows, apart}
 
 -- the list is the run with the event in its place
 pub record IsPlaced (tables : Tables) (tries : ℕ) (e : Event) (earlier all : List Event) : Type 0 where
@@ -103,8 +106,8 @@ place laws tables tries f earlier e follows falls deeper =
           past tables tries f earlier e follows falls other (no_later.1 other.nodes) (deeper other))
     ]
 
-pub insert : Laws → (tables : Tables) (tries : ℕ) → IsLine tables → tries ≤ 1000 → (e : Event) (earlier : List Event)
-    → Falls earlier → IsRun tables tries earlier → IsMade tables (state tables tries earlier) e → suc (length earlier) < 2 ^ 32
+pub insert : Laws → (tables : Tables) (tries : ℕ) → IsLine tables → AreFewTries tries → (e : Event) (earlier : List Event)
+    → Falls earlier → IsRun tables tries earlier → IsMade tables (state tables tries earlier) e → IsU32 (suc (length earlier))
     → Placed tables tries e earlier
 insert laws tables tries line few e [] falls run made room = (
   e ∷ [],

@@ -1,6 +1,6 @@
 use Rattle.std.proofs.Common.{reverse}
-use Rattle.rl_lamport.proofs.Records.{by_node, merge_of_records}
-use Rattle.rl_lamport.proofs.laws.merged_records.Goals as goal
+use Rattle.rl_merge.proofs.Records.{by_node, merge_of_records}
+use Rattle.rl_merge.proofs.laws.merged_records.Goals as goal
 
 pub returns : goal.returns
 returns c =

@@ -1,7 +1,9 @@
 ghost use Rattle.std.specs.Prelude.{◌≡◌, ℕ, ◌^◌, ◌<◌, ◌≤◌, List, Some, length, reverse, slice_get};
+ghost use Rattle.rl_base.specs.Numbers.{IsU32};
+ghost use Rattle.rl_base.specs.Tries.{AreFewTries};
 ghost use Rattle.rl_record.specs.declared.event.Event.{Event};
-ghost use Rattle.rl_lamport.specs.Chains.{AreChained, AreLeft};
-ghost use Rattle.rl_lamport.specs.Records.{AreRecordsOf};
+ghost use Rattle.rl_merge.specs.Chains.{clock_left, AreChained, AreLeft};
+ghost use Rattle.rl_merge.specs.Records.{AreRecordsOf};
 ghost use Rattle.rl_record.specs.Merge.{history, IsMerge};
 ghost use Rattle.rl_record.specs.Records.{Record, AreHistories, IsMergeOf};
 ghost use Rattle.rl_tables.specs.declared.table.Tables.{Tables};
@@ -17,7 +19,7 @@ use rl_words::stamps;
 /// same words, minds and clocks. There is only one such list.
 pub fn merged_runs()
     ensures run { (tables : Tables) (tries : ℕ) (log merged : List Event)
-        → IsLine tables → tries ≤ 1000 → length log < 2 ^ 32
+        → IsLine tables → AreFewTries tries → IsU32 (length log)
         → IsRun tables tries log → IsMerge (λ n. history n log) merged
         → IsRun tables tries merged × (state tables tries merged ≡ state tables tries log) }
     ensures only { (h : ℕ → List Event) (a b : List Event) → IsMerge h a → IsMerge h b → a ≡ b }
@@ -33,7 +35,7 @@ pub fn merged_records()
     ensures histories { (tables : Tables) (tries : ℕ) (log : List Event) (records : List Record)
         → IsRun tables tries log → AreRecordsOf log records → AreHistories records }
     ensures run { (tables : Tables) (tries : ℕ) (log : List Event) (records : List Record) (events : List Event)
-        → IsLine tables → tries ≤ 1000 → length log < 2 ^ 32
+        → IsLine tables → AreFewTries tries → IsU32 (length log)
         → IsRun tables tries log → AreRecordsOf log records → IsMergeOf records events
         → IsRun tables tries (reverse events) × (state tables tries (reverse events) ≡ state tables tries log) }
 {
@@ -58,14 +60,16 @@ pub fn chained_runs()
         → (n : ℕ) → (state tables tries merged).minds n ≡ minds n }
 {}
 
-/// The histories of a run are chained, and the words and the minds of its state are those that they left.
+/// The histories of a run are chained, and the words, the minds and the clocks of its state are those that they left.
 pub fn chains_of_runs()
     ensures chained { (tables : Tables) (tries : ℕ) (log : List Event)
-        → IsLine tables → tries ≤ 1000 → length log < 2 ^ 32 → IsRun tables tries log
+        → IsLine tables → AreFewTries tries → IsU32 (length log) → IsRun tables tries log
         → AreChained tables tries (λ n. history n log) }
     ensures left { (tables : Tables) (tries : ℕ) (log : List Event)
-        → IsLine tables → tries ≤ 1000 → length log < 2 ^ 32 → IsRun tables tries log
+        → IsLine tables → AreFewTries tries → IsU32 (length log) → IsRun tables tries log
         → AreLeft tables tries (λ n. history n log) (state tables tries log).words (state tables tries log).minds }
+    ensures clocks { (tables : Tables) (tries : ℕ) (log : List Event) → IsRun tables tries log
+        → (n : ℕ) → (state tables tries log).clocks n ≡ clock_left (history n log) }
 {
     sound_runs();
     steps_of_owners();

@@ -1,6 +1,6 @@
-use Rattle.rl_lamport.proofs.Later.{Laws}
-use Rattle.rl_lamport.proofs.Sorted.{merged_run}
-use Rattle.rl_lamport.proofs.laws.merged_runs.Goals as goal
+use Rattle.rl_merge.proofs.Later.{Laws}
+use Rattle.rl_merge.proofs.Sorted.{merged_run}
+use Rattle.rl_merge.proofs.laws.merged_runs.Goals as goal
 
 pub returns : goal.returns
 returns c =
