@@ -16,7 +16,7 @@ use Rattle.rl_runner.specs.Turns.{raised}
 use Rattle.rl_nodes.specs.Nodes.{Node, number, turns_of, IsWhole, node_of, IsHome, IsReady, is_train_at_rest}
 use Rattle.rl_nodes.specs.Turns.{scan_after, Looks, Idles, Moves, IsTurn, LoadFinds}
 use Rattle.rl_nodes.specs.Looks.{LeavesWord, ChangesWord}
-use Rattle.rl_nodes.proofs.Resting.{at_rest, awake}
+use Rattle.rl_nodes.proofs.Resting.{no_target_rests, awake}
 
 -- a node in its parts, before the turn
 pub record Parts (rails : Rails) (line : Tables) (seat : NodeSeat) (mind : Mind) (scan : ℕ) (log : Record) : Type 0 where
@@ -52,7 +52,7 @@ pub rests : (rails : Rails) (line : Tables) (seat : NodeSeat) (mind : Mind) (sca
 rests rails line seat mind scan log turns more parts target raised_is =
     let n = (walk_of seat).node.0 in (
       parts.room,
-      subst (λ (m : Mind). is_train_at_rest line n m ≡ true) (sym parts.whole.mind_is) (at_rest line n scan mind parts.whole.there parts.whole.formed target),
+      subst (λ (m : Mind). is_train_at_rest line n m ≡ true) (sym parts.whole.mind_is) (no_target_rests line n scan mind parts.whole.there parts.whole.formed target),
       ap (λ (k : ℕ). node_of rails line seat scan log k) raised_is,
     )
 

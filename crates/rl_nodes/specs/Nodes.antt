@@ -9,7 +9,7 @@ use Rattle.rl_record.specs.Records.{Record}
 use Rattle.rl_tables.specs.declared.table.Tables.{Tables}
 use Rattle.rl_tables.specs.declared.table.TrainTable.{TrainTable}
 use Rattle.rl_tables.specs.Starts.{layout_of}
-use Rattle.rl_train.specs.Mind.{is_resting}
+use Rattle.rl_train.specs.Mind.{at_rest}
 use Rattle.rl_steps.specs.declared.mind.Mind.{Mind}
 use Rattle.rl_steps.specs.declared.mind.Mind.TheVariants.{Train}
 use Rattle.rl_steps.specs.Held.{HasMind}
@@ -75,7 +75,7 @@ IsReady n node = min n (node.log.limit - length node.log.events) ≤ node.log.sp
 -- the node is a train, and at rest
 abbrev pub is_train_at_rest : Tables → ℕ → Mind → Bool
 is_train_at_rest line n (Train m) =
-    option_map_or (λ (t : TrainTable). is_resting t m) (slice_get line.trains n) false
+    option_map_or (λ (t : TrainTable). at_rest t m) (slice_get line.trains n) false
 is_train_at_rest line n mind = false
 
 -- the node wants no turn any more: it is a train at rest, or no train

@@ -10,7 +10,7 @@ use Rattle.rl_protocol.specs.Line.{Line}
 use Rattle.rl_protocol.specs.Jobs.{begins, passes}
 use Rattle.rl_protocol.specs.State.{State}
 use Rattle.rl_protocol.specs.Minds.{letter_of_path}
-use Rattle.rl_protocol.specs.Steps.{Step, post, hear_yes, hear_no, go, quiet, take, grant, refuse, release, lock_now, lock_ask, lock_moved, unlock, say_yes, say_no, busy, throw, settle, enter, head, leave, tail, Fits, next}
+use Rattle.rl_protocol.specs.Steps.{Step, post, hear_yes, hear_no, go, quiet, take, grant, refuse, release, lock_now, lock_ask, lock_moved, unlock, say_yes, say_no, busy, throw, settle, enter, head, leave, tail, StepFits, next}
 use Rattle.rl_protocol.specs.Agreement.{Agrees, AgreesOnPassage, Carries}
 use Rattle.rl_protocol.proofs.Known.{Known}
 use Rattle.rl_protocol.proofs.Jobs.{begins_passes, letter_there}
@@ -28,7 +28,7 @@ weight_for w t step = if about step == t then weight w step else 0
 Raises : Weights → Line → State → ℕ → Step → Type 0
 Raises w line s t step = (((next line s step).trains t).left ≡ (s.trains t).left) × (rank w s t + weight_for w t step ≤ rank w (next line s step) t)
 
-raised : (w : Weights) (line : Line) (s : State) (t : ℕ) (step : Step) → AgreesOnPassage s t → Fits line s step → Known line s step → opens s t step ≡ false
+raised : (w : Weights) (line : Line) (s : State) (t : ℕ) (step : Step) → AgreesOnPassage s t → StepFits line s step → Known line s step → opens s t step ≡ false
     → Raises w line s t step
 unfolding Raises
 raised w line s t (post u l) passage fits known h = (grind (arith, nat_tests), grind (arith, nat_tests))
@@ -59,7 +59,7 @@ Opens : Weights → Line → State → ℕ → Step → Type 0
 Opens w line s t step = ((s.trains t).left ≡ ((next line s step).trains t).left + 1) × (rank w s t ≡ attempt_weight w)
     × (weight_for w t step ≤ rank w (next line s step) t)
 
-opened : (w : Weights) (line : Line) (s : State) (t u : ℕ) (l : Letter) → Fits line s (post u l) → Known line s (post u l) → opens s t (post u l) ≡ true
+opened : (w : Weights) (line : Line) (s : State) (t u : ℕ) (l : Letter) → StepFits line s (post u l) → Known line s (post u l) → opens s t (post u l) ≡ true
     → Opens w line s t (post u l)
 unfolding Opens
 opened w line s t u l fits known h =
@@ -101,7 +101,7 @@ bounded w line tries s t agrees = of (s.trains t).waits (passes (s.trains t).job
         )
 
 -- each step does either
-pub raised_or_opened : (w : Weights) (line : Line) (s : State) (t : ℕ) (step : Step) → AgreesOnPassage s t → Fits line s step → Known line s step
+pub raised_or_opened : (w : Weights) (line : Line) (s : State) (t : ℕ) (step : Step) → AgreesOnPassage s t → StepFits line s step → Known line s step
     → let m = (next line s step).trains t in
     ((m.left ≡ (s.trains t).left) × (rank w s t + weight_for w t step ≤ rank w (next line s step) t))
     ⊎ (((s.trains t).left ≡ m.left + 1) × (rank w s t ≡ attempt_weight w) × (weight_for w t step ≤ rank w (next line s step) t))

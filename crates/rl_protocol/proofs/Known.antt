@@ -10,7 +10,7 @@ use Rattle.rl_protocol.specs.Line.{Line}
 use Rattle.rl_protocol.specs.Jobs.{passes}
 use Rattle.rl_protocol.specs.State.{State}
 use Rattle.rl_protocol.specs.Minds.{letter_of, letter_of_path, train}
-use Rattle.rl_protocol.specs.Steps.{Step, post, hear_yes, hear_no, go, quiet, take, grant, refuse, release, lock_now, lock_ask, lock_moved, unlock, say_yes, say_no, busy, throw, settle, enter, head, leave, tail, Fits}
+use Rattle.rl_protocol.specs.Steps.{Step, post, hear_yes, hear_no, go, quiet, take, grant, refuse, release, lock_now, lock_ask, lock_moved, unlock, say_yes, say_no, busy, throw, settle, enter, head, leave, tail, StepFits}
 use Rattle.rl_protocol.specs.Held.{is_path_of}
 use Rattle.rl_protocol.specs.Agreement.{asks, Carries, AgreesOnMailboxes, AgreesOnLocks, path_in_setting}
 use Rattle.rl_protocol.proofs.Jobs.{letter_not_passing, letter_there}
@@ -93,7 +93,7 @@ path_of_other : (t : ℕ) (o : Option Path) → ((p : Path) → o ≡ Some p →
 path_of_other t None h = refl
 path_of_other t (Some p) h = ne_eqb p.train.0 t (h p refl)
 
-pub known : (line : Line) (s : State) (step : Step) → AgreesOnMailboxes line s → AgreesOnLocks line s → Fits line s step → Known line s step
+pub known : (line : Line) (s : State) (step : Step) → AgreesOnMailboxes line s → AgreesOnLocks line s → StepFits line s step → Known line s step
 known line s (post t l) old locks fits = letter_not_passing (s.trains t).job _ l fits.2
 known line s (hear_yes t l) old locks fits = letter_not_passing (s.trains t).job _ l fits.1
 known line s (hear_no t l u job) old locks fits = letter_not_passing (s.trains t).job _ l fits.1

@@ -16,7 +16,7 @@ use Rattle.rl_tables.specs.declared.table.StepRow.{StepRow}
 use Rattle.rl_tables.specs.declared.table.TrainTable.{TrainTable}
 use Rattle.rl_tables.specs.declared.table.Tables.{Tables}
 use Rattle.rl_train.specs.declared.mind.TrainMind.{TrainMind}
-use Rattle.rl_train.specs.Mind.{is_resting}
+use Rattle.rl_train.specs.Mind.{at_rest}
 use Rattle.rl_train.specs.Steps.{TrainStep}
 use Rattle.rl_train.specs.Steps as trains
 use Rattle.rl_train.specs.Steps.TrainStep.{post as posts, hear_yes as hears_yes, hear_no as hears_no, go as goes, quiet as quiets}
@@ -29,7 +29,7 @@ use Rattle.rl_track.specs.Machine.MachineStep.{throw as throws, settle as settle
 use Rattle.rl_protocol.specs.Line.{Line}
 use Rattle.rl_protocol.specs.Jobs.{letter_at, job_after_yes, job_after_no, passes, begins, finishes}
 use Rattle.rl_protocol.specs.State.{State, put}
-use Rattle.rl_protocol.specs.Minds.{train, box, at_rest, row_of, letter_of, posted, heard, passed}
+use Rattle.rl_protocol.specs.Minds.{train, box, at_rest as line_at_rest, row_of, letter_of, posted, heard, passed}
 use Rattle.rl_protocol.specs.Steps.{post, hear_yes, hear_no, go, quiet, throw, settle, enter, head, leave, tail}
 use Rattle.rl_protocol.specs.TableLine.{no_row, line_of}
 use Rattle.rl_protocol.specs.Sentences.{HasWord, with_train, with_track, Makes}
@@ -43,8 +43,8 @@ row_is tables t table mind row e f =
 steps_are : (tables : Tables) (t : ℕ) (table : TrainTable) → slice_get tables.trains t ≡ Some table → (line_of tables).steps t ≡ length table.rows
 steps_are tables t table e = ap (λ o. option_map_or (λ (x : TrainTable). length x.rows) o 0) e
 
-resting_is : (tables : Tables) (t : ℕ) (table : TrainTable) (mind : TrainMind) → slice_get tables.trains t ≡ Some table → is_resting table mind ≡ false
-    → at_rest (line_of tables) t mind ≡ false
+resting_is : (tables : Tables) (t : ℕ) (table : TrainTable) (mind : TrainMind) → slice_get tables.trains t ≡ Some table → at_rest table mind ≡ false
+    → line_at_rest (line_of tables) t mind ≡ false
 unfolding begins
 resting_is tables t table mind e h =
     ap (λ n. not mind.waits && begins mind.job && (mind.step == n || mind.left == 0)) (steps_are tables t table e)

@@ -34,7 +34,7 @@ use Rattle.rl_protocol.specs.Jobs.{passes}
 use Rattle.rl_protocol.specs.State.{State}
 use Rattle.rl_box.specs.Steps.{path_of, other_side}
 use Rattle.rl_protocol.specs.Minds.{train, box, row_of, letter_of_path}
-use Rattle.rl_protocol.specs.Steps.{Step, post, hear_yes, hear_no, go, quiet, take, grant, refuse, release, lock_now, lock_ask, lock_moved, unlock, say_yes, say_no, busy, throw, settle, enter, head, leave, tail, Fits, next}
+use Rattle.rl_protocol.specs.Steps.{Step, post, hear_yes, hear_no, go, quiet, take, grant, refuse, release, lock_now, lock_ask, lock_moved, unlock, say_yes, say_no, busy, throw, settle, enter, head, leave, tail, StepFits, next}
 use Rattle.rl_protocol.specs.StepMoves.{move_of, refusal_of, seg_at}
 use Rattle.rl_protocol.specs.Held.{has_done_for, done_in, held_with, locked_with, holds, has_lock, job_holds, job_locks}
 use Rattle.rl_protocol.specs.Agreement.{Agrees, AgreesOnPassage, is_passing, place_of, is_locked_by, path_in_setting, lock_holder, HasWhatIsAsked}
@@ -223,21 +223,21 @@ module _ (net : NetworkPlan) (line : Line) (tries : ℕ) (s : State) (network : 
   joins_net : (b x y : ℕ) (side : Side) (answer : Bool) → arms_join (line.kind b) x y side ≡ answer → arms_join (kind_of net b) x y side ≡ answer
   joins_net b x y side answer h = ap (λ k. arms_join k x y side) (sym (of.kind b)) ∙ h
 
-  lock_now_moves : (b t : ℕ) (l : Letter) (side : Side) → Fits line s (lock_now b t l side) → HasTaken line s b t l
+  lock_now_moves : (b t : ℕ) (l : Letter) (side : Side) → StepFits line s (lock_now b t l side) → HasTaken line s b t l
       → IsMove net (world_at net s) (world_at net (next line s (lock_now b t l side))) (moves.Lock (train t) (box b) (seg_at line b l.x) (seg_at line b l.y))
   lock_now_moves b t l side fits has =
       let held = lock_held line tries s b t l laws agrees has fits.1 in
       lock_moves net line s b (path_of (train t) l) are (asked_at b t l has fits.1) side (Locked (path_of (train t) l)) fits.2 held.0 held.1 (λ u f g. refl)
       (stands_now (kind_of net b) l.x.0 l.y.0 side (joins_net b l.x.0 l.y.0 side true fits.3))
 
-  lock_ask_moves : (b t : ℕ) (l : Letter) (side : Side) → Fits line s (lock_ask b t l side) → HasTaken line s b t l
+  lock_ask_moves : (b t : ℕ) (l : Letter) (side : Side) → StepFits line s (lock_ask b t l side) → HasTaken line s b t l
       → IsMove net (world_at net s) (world_at net (next line s (lock_ask b t l side))) (moves.Lock (train t) (box b) (seg_at line b l.x) (seg_at line b l.y))
   lock_ask_moves b t l side fits has =
       let held = lock_held line tries s b t l laws agrees has fits.1 in
       lock_moves net line s b (path_of (train t) l) are (asked_at b t l has fits.1) side (Asked (path_of (train t) l)) fits.2 held.0 held.1 (λ u f g. refl)
       (stands_asked (kind_of net b) l.x.0 l.y.0 side (joins_net b l.x.0 l.y.0 side false fits.3) (joins_net b l.x.0 l.y.0 (other_side side) true fits.4))
 
-  unlock_step_moves : (b t : ℕ) (l : Letter) (side : Side) → Fits line s (unlock b t l side) → HasTaken line s b t l
+  unlock_step_moves : (b t : ℕ) (l : Letter) (side : Side) → StepFits line s (unlock b t l side) → HasTaken line s b t l
       → IsMove net (world_at net s) (world_at net (next line s (unlock b t l side))) (moves.Unlock (train t) (box b))
   unlock_step_moves b t l side fits has =
       unlock_moves net line s b (path_of (train t) l) are (unlocked_at b t l has fits.1) side fits.2
@@ -293,7 +293,7 @@ module _ (net : NetworkPlan) (line : Line) (tries : ℕ) (s : State) (network : 
       (subst (λ z. IsOwnPath line p.train.0 (s.trains p.train.0) z p.x.0 p.y.0) has.to
       (lock_path line tries s p.train.0 (letter_of_path b p) agrees has.waits has.letter refl))
 
-  settle_step_moves : (b : ℕ) (p : Path) → Fits line s (settle b p) → Known line s (settle b p)
+  settle_step_moves : (b : ℕ) (p : Path) → StepFits line s (settle b p) → Known line s (settle b p)
       → MovesBy net (world_at net s) (world_at net (next line s (settle b p))) (move_of line (settle b p))
   settle_step_moves b p fits known =
       let path = waited_at b p known.1 in
@@ -302,7 +302,7 @@ module _ (net : NetworkPlan) (line : Line) (tries : ℕ) (s : State) (network : 
       (sym (ap (λ k. joining_side k p.x.0 p.y.0) (of.kind b) ∙ side.1))
       (settle_moves net line s b p are path side.0 fits (point_at b p known.0) side.1)
 
-  enter_step_moves : (t k : ℕ) → Fits line s (enter t k)
+  enter_step_moves : (t k : ℕ) → StepFits line s (enter t k)
       → IsMove net (world_at net s) (world_at net (next line s (enter t k))) (let row = line.row t k in moves.Enter (train t) row.b row.s row.s2)
   enter_step_moves t k fits =
       let passing = run_passing s t k (agrees.passage t) (inl fits.1) in
@@ -315,14 +315,14 @@ module _ (net : NetworkPlan) (line : Line) (tries : ℕ) (s : State) (network : 
         enter_points t k passing.0 passing.1,
       )
 
-  leave_step_moves : (t k : ℕ) → Fits line s (leave t k)
+  leave_step_moves : (t k : ℕ) → StepFits line s (leave t k)
       → IsMove net (world_at net s) (world_at net (next line s (leave t k))) (moves.Leave (train t) (line.row t k).s)
   leave_step_moves t k fits =
       let passing = run_passing s t k (agrees.passage t) (inr fits.1) in
       let within : k < line.steps t = subst (λ z. z < line.steps t) passing.1 (passing_within t passing.0) in
       leave_moves net line s t k (row_step t k within) fits.1 (row_apart t k within)
 
-  pub moved_by : (step : Step) → Fits line s step → Known line s step → MovesBy net (world_at net s) (world_at net (next line s step)) (move_of line step)
+  pub moved_by : (step : Step) → StepFits line s step → Known line s step → MovesBy net (world_at net s) (world_at net (next line s step)) (move_of line step)
   moved_by (post t l) fits known = refl
   moved_by (hear_yes t l) fits known = refl
   moved_by (hear_no t l u job) fits known = refl

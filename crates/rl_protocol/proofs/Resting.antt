@@ -22,7 +22,7 @@ use Rattle.rl_protocol.specs.Minds.{at_rest, row_of}
 use Rattle.rl_protocol.specs.Held.{has_done_for, done_in, held_with, locked_with, job_holds, job_locks}
 use Rattle.rl_protocol.specs.Agreement.{Agrees, is_locked_by}
 use Rattle.rl_protocol.specs.Worlds.{IsRailway, stands_on, is_across, locks, world_at}
-use Rattle.rl_protocol.specs.Rest.{AllRest, IsAtRest}
+use Rattle.rl_protocol.specs.Rest.{AllAtRest, HoldsSegmentsAlone}
 use Rattle.rl_protocol.proofs.Jobs.{beginning_holds, beginning_unlocked, beginning_place}
 use Rattle.rl_protocol.proofs.Places.{placed}
 use Rattle.rl_protocol.proofs.Passing.{number_is}
@@ -71,7 +71,7 @@ free_lock (Moving p) none = absurd (own_lock (Moving p) p none (λ u x y. refl))
 free_lock (Moved p) none = absurd (own_lock (Moved p) p none (λ u x y. refl))
 free_lock (Locked p) none = absurd (own_lock (Locked p) p none (λ u x y. refl))
 
-pub all_at_rest : (line : Line) (tries : ℕ) (s : State) → Agrees line tries s → AllRest line s → IsAtRest line s
+pub all_at_rest : (line : Line) (tries : ℕ) (s : State) → Agrees line tries s → AllAtRest line s → HoldsSegmentsAlone line s
 all_at_rest line tries s agrees rest =
     record {
       holds = λ t b x. rest_holds line tries s agrees t (rest t) b x;
@@ -113,7 +113,7 @@ pub rests_in_world : (net : NetworkPlan) (line : Line) (tries : ℕ) (s : State)
 rests_in_world net line tries s t is agrees there rests =
     let k = (s.trains t).step in
     let run = rest_run line tries s agrees t rests in
-    let segment = route_there net t k is.network there (subst (λ n. k ≤ n) (is.line_of.steps t) (agrees.attempts t).within) in
+    let segment = route_there net t k is.network there (subst (λ n. k ≤ n) (is.line_is.steps t) (agrees.attempts t).within) in
     record {
       off = λ b from to. ap (λ v. is_across (route_segment net t) (route_box net t) v b from to) run;
       segment = segment.0;
@@ -130,7 +130,7 @@ rests_in_world net line tries s t is agrees there rests =
         and_false true = refl
         and_false false = refl
     at_arm r b segment on (Some x) h =
-        rest_holds line tries s agrees t rests b x ∙ is.line_of.ends t (s.trains t).step b x
+        rest_holds line tries s agrees t rests b x ∙ is.line_is.ends t (s.trains t).step b x
         ∙ ap (λ o. same_number o (route_segment net t (s.trains t).step)) ((placed net is.network).to_segment r b x h)
         ∙ ap (λ o. is_number o r) on ∙ turned segment r
       where

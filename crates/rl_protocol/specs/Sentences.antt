@@ -13,7 +13,7 @@ use Rattle.rl_box.specs.Steps.{BoxStep}
 use Rattle.rl_track.specs.declared.track.TrackMind.{TrackMind}
 use Rattle.rl_protocol.specs.Line.{Line}
 use Rattle.rl_protocol.specs.State.{State, put}
-use Rattle.rl_protocol.specs.Steps.{Step, Fits, next}
+use Rattle.rl_protocol.specs.Steps.{Step, StepFits, next}
 use Rattle.rl_protocol.specs.Nodes.{node_of, word_of}
 
 -- who holds arm x by a reservation word, which has four arms
@@ -49,7 +49,7 @@ with_box s b mind = record s { boxes = put s.boxes b mind }
 -- the node makes a step that leaves this state, in which its word is the one that changed
 pub record Makes (line : Line) (s : State) (node : NodeKind) (word : Word) (after : State) : Type 0 where
   pub step : Step
-  pub fits : Fits line s step
+  pub fits : StepFits line s step
   pub by_node : node_of step ≡ node
   pub on_word : word_of step ≡ kind_of word
   pub leaves : next line s step ≡ with_word after word

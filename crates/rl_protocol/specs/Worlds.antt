@@ -32,7 +32,7 @@ pub record IsLineOf (net : NetworkPlan) (line : Line) : Type 0 where
 -- a network, and a consistent line of it
 pub record IsRailway (net : NetworkPlan) (line : Line) : Type 0 where
   pub network : IsNetwork net
-  pub line_of : IsLineOf net line
+  pub line_is : IsLineOf net line
   pub consistent : IsConsistent line
 
 -- a train whose route has these segments occupies the one that its run word names, and the next one too while it is

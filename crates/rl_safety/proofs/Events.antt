@@ -50,7 +50,7 @@ use Rattle.rl_steps.proofs.Keeping.{StepsKeep}
 use Rattle.rl_steps.proofs.Made.{IsMade}
 use Rattle.rl_steps.proofs.Options.{from_map, from_then, same_some}
 use Rattle.rl_protocol.specs.State.{State}
-use Rattle.rl_protocol.specs.Steps.{Step, Fits, next}
+use Rattle.rl_protocol.specs.Steps.{Step, StepFits, next}
 use Rattle.rl_protocol.specs.StepMoves as moves
 use Rattle.rl_protocol.specs.Nodes.{node_of}
 use Rattle.rl_protocol.specs.TableLine.{line_of}
@@ -139,7 +139,7 @@ arms_there tables b x i line there = rw there (is_some_map (λ (s : SegId). s.0)
 -- an event as a step of the protocol, and what its word says after it
 pub record IsEventStep (tables : Tables) (tries : ℕ) (c : CoreState) (e : Event) : Type 0 where
   pub step : Step
-  pub fits : Fits (line_of tables) (read tables tries c) step
+  pub fits : StepFits (line_of tables) (read tables tries c) step
   pub leaves : read tables tries (after tables c e) ≡ next (line_of tables) (read tables tries c) step
   pub move : move_of tables e ≡ moves.move_of (line_of tables) step
   pub node : NodeKind

@@ -20,7 +20,7 @@ use Rattle.rl_protocol.specs.Agreement.{Agrees}
 use Rattle.rl_protocol.specs.Jobs.{begins}
 use Rattle.rl_protocol.specs.Minds.{at_rest}
 use Rattle.rl_protocol.specs.Refusals.{refusals_said}
-use Rattle.rl_protocol.specs.Rest.{AllRest}
+use Rattle.rl_protocol.specs.Rest.{AllAtRest}
 use Rattle.rl_protocol.specs.State.{State}
 use Rattle.rl_protocol.specs.TableLine.{line_of}
 use Rattle.rl_protocol.specs.Worlds.{steps_made}
@@ -117,7 +117,7 @@ ended_fate tables t m rests = by (m.step == (line_of tables).steps t) refl
     by false e = inr (rw (rests, e) refl)
 
 pub ended_outcome : (tables : Tables) (tries : ℕ) (events : List Event) (t : ℕ) (o : Outcome)
-    → AllRest (line_of tables) (read tables tries (state tables tries events)) → slice_get (outcomes_of tables tries events) t ≡ Some o
+    → AllAtRest (line_of tables) (read tables tries (state tables tries events)) → slice_get (outcomes_of tables tries events) t ≡ Some o
     → (o.fate ≡ Arrived) ⊎ (o.fate ≡ Spent)
 ended_outcome tables tries events t o rest at =
     let found = listed (λ t. outcome_of tables (moves_of tables events) t (mind_in tables tries events t)) (length tables.trains) t o at in

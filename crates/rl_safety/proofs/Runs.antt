@@ -39,7 +39,7 @@ use Rattle.rl_protocol.specs.Line.{Line, IsConsistent}
 use Rattle.rl_protocol.specs.Nodes.{node_of}
 use Rattle.rl_protocol.specs.Runs as protocol
 use Rattle.rl_protocol.specs.State.{State}
-use Rattle.rl_protocol.specs.Steps.{Step, Fits, next}
+use Rattle.rl_protocol.specs.Steps.{Step, StepFits, next}
 use Rattle.rl_protocol.specs.TableLine.{line_of, no_row}
 use Rattle.rl_safety.specs.Counts.{events_by}
 use Rattle.rl_safety.specs.Railway.{row_at}
@@ -207,7 +207,7 @@ by_number lay m n x y at_m at_n =
 -- what is so of steps, by the protocol's own law
 abbrev pub Agreeing : Type 0
 Agreeing =
-    (line : Line) (tries : ℕ) (steps : List Step) → IsConsistent line → protocol.IsRun line tries steps
+    (line : Line) (tries : ℕ) (steps : List Step) → IsConsistent line → protocol.IsStepRun line tries steps
     → Agrees line tries (protocol.state_after line tries steps)
 
 pub run_stepped : Laws → ReadsValues → Agreeing → (tables : Tables) (tries : ℕ) (events : List Event) → IsLine tables → IsConsistent (line_of tables)
@@ -221,7 +221,7 @@ run_stepped laws values agreeing tables tries (e ∷ earlier) line fine few run 
     subst (Agrees (line_of tables) tries) (sym before.state) agrees_there in
     let minded = runs_minded laws.steps tables tries earlier line few run.0 in
     let made = event_step laws tables tries (runs.state tables tries earlier) e line minded agrees run.1 in
-    let F : State → Type 0 = λ s. Fits (line_of tables) s made.step in
+    let F : State → Type 0 = λ s. StepFits (line_of tables) s made.step in
     record {
       steps = made.step ∷ before.steps;
       run = (before.run, subst F before.state made.fits);

@@ -12,7 +12,7 @@ use Rattle.rl_tables.specs.declared.table.TrainTable.{TrainTable}
 use Rattle.rl_tables.specs.declared.table.Tables.{Tables}
 use Rattle.rl_train.specs.declared.mind.TrainMind.{TrainMind}
 use Rattle.rl_train.specs.Jobs.{letter, after_no, is_pass, is_near}
-use Rattle.rl_train.specs.Mind.{row_of, is_resting}
+use Rattle.rl_train.specs.Mind.{row_of, at_rest}
 use Rattle.rl_train.specs.Steps as trains
 use Rattle.rl_train.specs.Steps.{TrainStep}
 use Rattle.rl_train.specs.Steps.TrainStep.{post, hear_yes, hear_no, go, quiet}
@@ -41,7 +41,7 @@ swapped true false c e = refl
 swapped false true c e = refl
 swapped false false c e = refl
 
-rests_not : (tables : Tables) (s : State) (x : TrainTable) (m : TrainMind) → IsTrainHere tables s x m → is_resting x m ≡ false
+rests_not : (tables : Tables) (s : State) (x : TrainTable) (m : TrainMind) → IsTrainHere tables s x m → at_rest x m ≡ false
     → minds.at_rest (line_of tables) x.number.0 m ≡ false
 unfolding begins
 rests_not tables s x m here not_resting = rw here.steps (swapped (is_near m.job) (not m.waits) (m.step == length x.rows || m.left == 0) not_resting)

@@ -7,7 +7,7 @@ use Rattle.rl_words.specs.Word.Word.{Resv, Lock, Mail, Run, Sense}
 use Rattle.rl_tables.specs.declared.table.Tables.{Tables}
 use Rattle.rl_steps.specs.declared.mind.Mind.{Mind}
 use Rattle.rl_protocol.specs.State.{State}
-use Rattle.rl_protocol.specs.Steps.{Step, Fits, next}
+use Rattle.rl_protocol.specs.Steps.{Step, StepFits, next}
 use Rattle.rl_protocol.specs.StepMoves.{move_of}
 use Rattle.rl_protocol.specs.Nodes.{node_of}
 use Rattle.rl_protocol.specs.TableLine.{line_of}
@@ -26,7 +26,7 @@ Says s (Sense t v) = s.sense t.0 ≡ v
 -- a step of the protocol by the node, which then has this mind, from the word seen to the word left
 pub record IsLabel (tables : Tables) (s : State) (node : NodeKind) (mind : Mind) (seen left : Word) : Type 0 where
   pub step : Step
-  pub fits : Fits (line_of tables) s step
+  pub fits : StepFits (line_of tables) s step
   pub leaves : next (line_of tables) s step ≡ with_word (with_mind s node mind) left
   pub moves : move_of (line_of tables) step ≡ word_move tables seen left
   pub by : node_of step ≡ node

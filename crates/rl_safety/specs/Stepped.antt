@@ -17,7 +17,7 @@ use Rattle.rl_safety.specs.Reading.{read}
 -- the run of steps of a run of events
 pub record IsStepped (tables : Tables) (tries : ℕ) (events : List Event) : Type 0 where
   pub steps : List Step
-  pub run : protocol.IsRun (line_of tables) tries steps
+  pub run : protocol.IsStepRun (line_of tables) tries steps
   pub state : read tables tries (runs.state tables tries events) ≡ protocol.state_after (line_of tables) tries steps
   pub moves : moves_of tables events ≡ protocol.moves_of (line_of tables) steps
   pub count : length events ≡ length steps

@@ -11,7 +11,7 @@ ghost use Rattle.rl_model.specs.Safety.{IsSafeRun, world_after};
 ghost use Rattle.rl_protocol.specs.Agreement.{Agrees};
 ghost use Rattle.rl_protocol.specs.Minds.{at_rest};
 ghost use Rattle.rl_protocol.specs.Refusals.{refusals_said};
-ghost use Rattle.rl_protocol.specs.Rest.{AllRest, IsAtRest};
+ghost use Rattle.rl_protocol.specs.Rest.{AllAtRest, HoldsSegmentsAlone};
 ghost use Rattle.rl_protocol.specs.TableLine.{line_of};
 ghost use Rattle.rl_record.specs.declared.event.Event.{Event};
 ghost use Rattle.rl_steps.specs.Numbers.{node_at};
@@ -98,8 +98,8 @@ pub fn counted_refusals()
 pub fn trains_at_rest()
     ensures all { (tables : Tables) (tries : ℕ) (events : List Event)
         → IsLine tables → tries ≤ 1000 → IsRun tables tries events
-        → AllRest (line_of tables) (read tables tries (state tables tries events))
-        → IsAtRest (line_of tables) (read tables tries (state tables tries events)) }
+        → AllAtRest (line_of tables) (read tables tries (state tables tries events))
+        → HoldsSegmentsAlone (line_of tables) (read tables tries (state tables tries events)) }
     ensures each { (net : NetworkPlan) (tables : Tables) (tries : ℕ) (events : List Event) (t : ℕ)
         → IsNetwork net → AreTablesOf net tables → tries ≤ 1000 → IsRun tables tries events → t < length net.trains
         → at_rest (line_of tables) t ((read tables tries (state tables tries events)).trains t) ≡ true
@@ -140,7 +140,7 @@ pub fn right_reports()
         → IsNetwork net → AreTablesOf net tables → 1 ≤ tries → tries ≤ 1000 → IsRun tables tries events
         → IsReportOf net (report_of tables tries events) }
     ensures ended { (tables : Tables) (tries : ℕ) (events : List Event) (t : ℕ) (o : Outcome)
-        → AllRest (line_of tables) (read tables tries (state tables tries events))
+        → AllAtRest (line_of tables) (read tables tries (state tables tries events))
         → slice_get (report_of tables tries events).outcomes t ≡ Some o
         → (o.fate ≡ Arrived) ⊎ (o.fate ≡ Spent) }
 {

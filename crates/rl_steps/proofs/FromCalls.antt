@@ -18,7 +18,7 @@ use Rattle.rl_tables.specs.Kept.{IsLine}
 use Rattle.rl_tables.specs.Starts.{layout_of}
 use Rattle.rl_train.specs.declared.mind.TrainMind.{TrainMind}
 use Rattle.rl_train.specs.Jobs.{is_pass}
-use Rattle.rl_train.specs.Mind.{is_resting}
+use Rattle.rl_train.specs.Mind.{at_rest}
 use Rattle.rl_train.specs.Steps.{train_step, train_target}
 use Rattle.rl_box.specs.declared.mind.BoxMind.{BoxMind}
 use Rattle.rl_box.specs.declared.mind.Work.{Work}
@@ -54,7 +54,7 @@ box_number tables b x line there =
 
 train_target_there : (lay : Layout) (x : TrainTable) (m : TrainMind) (kind : WordKind) → x.number.0 < lay.trains → train_target x m ≡ Some kind
     → HasWord lay kind
-train_target_there lay x m kind number is = by (is_resting x m) (is_pass m.job) m.waits kind is
+train_target_there lay x m kind number is = by (at_rest x m) (is_pass m.job) m.waits kind is
   where
     by : (rests pass waits : Bool) (kind : WordKind)
         → (if rests then None else (if pass then Some (if waits then kinds.Sense x.number else kinds.Run x.number) else Some (kinds.Mail x.number))) ≡ Some kind

@@ -8,7 +8,7 @@ use Rattle.rl_tables.specs.declared.table.StepRow.{StepRow}
 use Rattle.rl_tables.specs.declared.table.TrainTable.{TrainTable}
 use Rattle.rl_train.specs.declared.mind.TrainMind.{TrainMind}
 use Rattle.rl_train.specs.Jobs.{after_no}
-use Rattle.rl_train.specs.Mind.{is_resting, attempts, IsTrainMind}
+use Rattle.rl_train.specs.Mind.{at_rest, attempts, IsTrainMind}
 use Rattle.rl_train.specs.Steps.{posted, heard, denied}
 
 abbrev mind_of : ℕ → Job → Bool → ℕ → ℕ → TrainMind
@@ -56,7 +56,7 @@ module _ (table : TrainTable) (row : StepRow) (step left refused : ℕ) where
   denied_parts DropNear next e h = absurd (cc)
 
 module _ (table : TrainTable) (step left refused : ℕ) where
-  posted_near : IsTrainMind table (mind_of step Near false left refused) → is_resting table (mind_of step Near false left refused) ≡ false
+  posted_near : IsTrainMind table (mind_of step Near false left refused) → at_rest table (mind_of step Near false left refused) ≡ false
       → IsTrainMind table (posted (mind_of step Near false left refused))
   posted_near h r =
       let ends = or_parts (step == length table.rows) (left == 0) r in
@@ -66,7 +66,7 @@ module _ (table : TrainTable) (step left refused : ℕ) where
       let few = h.few in
       on_route table _ (omega arith) (omega arith)
 
-  posted_parts : (job : Job) → IsTrainMind table (mind_of step job false left refused) → is_resting table (mind_of step job false left refused) ≡ false
+  posted_parts : (job : Job) → IsTrainMind table (mind_of step job false left refused) → at_rest table (mind_of step job false left refused) ≡ false
       → IsTrainMind table (posted (mind_of step job false left refused))
   posted_parts Near h r = posted_near h r
   posted_parts Far h r = on_route table _ (h.on_route refl) h.few
@@ -90,11 +90,11 @@ pub denied_kept : (table : TrainTable) (row : StepRow) (mind : TrainMind) (next 
     → after_no row mind.job ≡ Some next → IsTrainMind table (denied next mind)
 denied_kept table row mind next h w e = denied_parts table row mind.step mind.left mind.refused mind.job next e (known table mind true w h)
 
-pub posted_kept : (table : TrainTable) (mind : TrainMind) → IsTrainMind table mind → mind.waits ≡ false → is_resting table mind ≡ false
+pub posted_kept : (table : TrainTable) (mind : TrainMind) → IsTrainMind table mind → mind.waits ≡ false → at_rest table mind ≡ false
     → IsTrainMind table (posted mind)
 posted_kept table mind h w r =
-    let resting : is_resting table (mind_of mind.step mind.job false mind.left mind.refused) ≡ false =
-    subst (λ b. is_resting table (mind_of mind.step mind.job b mind.left mind.refused) ≡ false) w r in
+    let resting : at_rest table (mind_of mind.step mind.job false mind.left mind.refused) ≡ false =
+    subst (λ b. at_rest table (mind_of mind.step mind.job b mind.left mind.refused) ≡ false) w r in
     posted_parts table mind.step mind.left mind.refused mind.job (known table mind false w h) resting
 
 -- who passes is on the route

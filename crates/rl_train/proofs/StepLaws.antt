@@ -20,7 +20,7 @@ use Rattle.rl_tables.specs.declared.table.TrainTable.{TrainTable}
 use Rattle.rl_train.specs.declared.mind.TrainMind.{TrainMind}
 use Rattle.rl_train.specs.Jobs.{letter, is_near, is_pass}
 use Rattle.rl_train.specs.Kept.{IsTrainOn, KeepsTrain}
-use Rattle.rl_train.specs.Mind.{is_resting, IsTrainMind, CanBeNamed, IsUsable}
+use Rattle.rl_train.specs.Mind.{at_rest, IsTrainMind, CanBeNamed, IsUsable}
 use Rattle.rl_train.specs.Steps.{TrainStep, train_on, train_step, train_target}
 use Rattle.rl_train.specs.Steps.TrainStep.{post, hear_yes, hear_no, go, quiet}
 use Rattle.rl_train.proofs.KeptLemmas.{heard_kept, denied_kept, posted_kept, passing_on_route, gone_kept, quiet_kept}
@@ -80,13 +80,13 @@ not_pass row DropFar l e = refl
 not_pass row DropNear l e = refl
 
 -- who waits isn't at rest, nor is who passes
-waiting_on : (table : TrainTable) (mind : TrainMind) → mind.waits ≡ true → is_resting table mind ≡ false
+waiting_on : (table : TrainTable) (mind : TrainMind) → mind.waits ≡ true → at_rest table mind ≡ false
 waiting_on table mind waits = and_right (is_near mind.job) _ (rw waits refl)
 
-passing_on : (table : TrainTable) (mind : TrainMind) → mind.job ≡ Pass → is_resting table mind ≡ false
+passing_on : (table : TrainTable) (mind : TrainMind) → mind.job ≡ Pass → at_rest table mind ≡ false
 passing_on table mind is = rw is refl
 
-at_mail : (table : TrainTable) (mind : TrainMind) → is_resting table mind ≡ false → is_pass mind.job ≡ false
+at_mail : (table : TrainTable) (mind : TrainMind) → at_rest table mind ≡ false → is_pass mind.job ≡ false
     → train_target table mind ≡ Some (kinds.Mail table.number)
 at_mail table mind rests pass = rw (rests, pass) refl
 

@@ -15,8 +15,8 @@ abbrev pub row_of : TrainTable → TrainMind → Option StepRow
 row_of table mind = slice_get table.rows mind.step
 
 -- it could begin a step, and is at the end of its route or has no attempt left
-abbrev pub is_resting : TrainTable → TrainMind → Bool
-is_resting table mind = is_near mind.job && (not mind.waits && (mind.step == length table.rows || mind.left == 0))
+abbrev pub at_rest : TrainTable → TrainMind → Bool
+at_rest table mind = is_near mind.job && (not mind.waits && (mind.step == length table.rows || mind.left == 0))
 
 -- the attempts that it has left, has used for steps made and refusals, and has under way
 abbrev pub attempts : TrainMind → ℕ

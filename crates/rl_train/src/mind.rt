@@ -1,6 +1,6 @@
 ghost use Rattle.std.specs.Prelude.{◌≡◌, ◌≤◌};
 ghost use Rattle.rl_tables.specs.declared.table.TrainTable.{TrainTable};
-ghost use Rattle.rl_train.specs.Mind.{start_train, is_resting, IsTrainMind};
+ghost use Rattle.rl_train.specs.Mind.{start_train, at_rest, IsTrainMind};
 
 use crate::jobs::is_near;
 use rl_base::Job;
@@ -35,7 +35,7 @@ impl TrainMind {
 
     /// Whether the train has arrived at the end of its route, or has spent its attempts.
     pub fn at_rest(&self, t: &TrainTable) -> bool
-        ensures { result ≡ is_resting t.now self.now }
+        ensures { result ≡ at_rest t.now self.now }
     {
         is_near(self.job) && !self.waits && (self.step as usize == t.rows.len() || self.left == 0)
     }

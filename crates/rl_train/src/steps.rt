@@ -8,7 +8,7 @@ ghost use Rattle.rl_words.specs.Sense.{FitsSense};
 ghost use Rattle.rl_tables.specs.declared.table.TrainTable.{TrainTable};
 ghost use Rattle.rl_train.specs.Glance.{may_hear};
 ghost use Rattle.rl_train.specs.Jobs.{after_no};
-ghost use Rattle.rl_train.specs.Mind.{row_of, is_resting, IsTrainMind, CanBeNamed, IsUsable};
+ghost use Rattle.rl_train.specs.Mind.{row_of, at_rest, IsTrainMind, CanBeNamed, IsUsable};
 ghost use Rattle.rl_train.specs.Steps.{posted, heard, denied, on_mail, on_run, on_sense, train_step, train_target};
 
 use crate::jobs::{after_no, after_yes, asks, ends_step, is_near, is_pass, letter};
@@ -218,7 +218,7 @@ impl TrainMind {
     fn posted(&self) -> TrainMind
         ensures mind { result ≡ posted self.now }
         ensures kept { (table : TrainTable) → IsTrainMind table self.now → self.now.waits ≡ false
-            → is_resting table self.now ≡ false → IsTrainMind table result }
+            → at_rest table self.now ≡ false → IsTrainMind table result }
     {
         let left = if is_near(self.job) {
             self.left.saturating_sub(1)

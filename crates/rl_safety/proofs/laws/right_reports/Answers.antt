@@ -21,7 +21,7 @@ returns c =
     let world = c.safe_runs.ensures.world net tables tries events network are few run in
     record {
       trains = are.trains.length_is;
-      steps = railway.line_of.steps;
+      steps = railway.line_is.steps;
       agrees = c.agreement.ensures tables tries events line few run;
       made = λ t. c.counted_leaves.ensures net (moves_of tables events) t ∙ ap (λ (w : World). w.made t) (sym world);
       refused = λ t. c.counted_refusals.ensures tables tries events t line few run;
