@@ -8,6 +8,7 @@ ghost use Rattle.rl_model.specs.ReportText.{fate_word};
 ghost use Rattle.rl_report.specs.Words.{IsCount, outcome_words};
 ghost use Rattle.rl_report.specs.Grammar.{IsOutcomeLine};
 
+use crate::report::fate_word;
 use crate::words::Words;
 use rl_base::TrainId;
 use rl_base::limits::{MAX_MOVES, MAX_TRIES, MIN_TRIES};
@@ -20,11 +21,11 @@ fn fate_of(word: &[u8]) -> Option<Fate>
     ensures some { IfSome result (λ fate. word.now ≡ fate_word fate) }
     ensures none { IfNone result ((fate : Fate) → word.now ≢ fate_word fate) }
 {
-    if word == b"arrived".as_slice() {
+    if word == fate_word(Fate::Arrived) {
         Some(Fate::Arrived)
-    } else if word == b"spent".as_slice() {
+    } else if word == fate_word(Fate::Spent) {
         Some(Fate::Spent)
-    } else if word == b"underway".as_slice() {
+    } else if word == fate_word(Fate::Underway) {
         Some(Fate::Underway)
     } else {
         None
