@@ -3,6 +3,7 @@ use Rattle.std.proofs.Common.{◌≡◌, ℕ, zero, suc, ◌<◌, ◌≤◌, Boo
 use Rattle.std.specs.Prelude.{◌==◌, ◌↔◌, is_some, find, option_map, IfSome}
 use Rattle.std.proofs.lemmas.Bool.{cond_both, eqb-true, eq-eqb, false≢true}
 use Rattle.std.proofs.lemmas.Option.{same_Some, option_and_then_some, slice_get_within}
+use Rattle.rl_base.specs.declared.limits.TheConstants.{MAX_TRAINS}
 use Rattle.rl_base.specs.declared.ids.TrainId.{TrainId}
 use Rattle.rl_base.specs.declared.ids.SegId.{SegId}
 use Rattle.rl_model.specs.declared.network.Train.{Train}
@@ -37,7 +38,7 @@ holder_there tables s line =
     (found (λ (x : TrainTable). x.first.0 == s) tables.trains (λ x. x.number.0 < length tables.trains)
     (λ k x at pass. let within = slice_get_within tables.trains k x at in let number = (line.trains k x at).number in omega arith))
 
-fits : (o : Option TrainId) (n : ℕ) → n ≤ 32 → IfSome o (λ t. t.0 < n) → FitsArm o
+fits : (o : Option TrainId) (n : ℕ) → n ≤ MAX_TRAINS → IfSome o (λ t. t.0 < n) → FitsArm o
 fits None n few h = tt
 fits (Some t) n few h = omega arith
 
