@@ -1,6 +1,7 @@
 ghost use Rattle.std.specs.Prelude.{◌≡◌, ◌≢◌, ◌≤◌, ◌∷◌, [], ℕ, List, IfSome, IfNone, codes, decimal};
 ghost use Rattle.rl_base.specs.declared.ids.TrainId.{TrainId};
-ghost use Rattle.rl_base.specs.declared.limits.TheConstants.{MIN_TRIES, MAX_TRIES};
+ghost use Rattle.rl_base.specs.Tries.{AreFewTries};
+ghost use Rattle.rl_base.specs.declared.limits.TheConstants.{MIN_TRIES};
 ghost use Rattle.rl_model.specs.declared.report.Fate.{Fate};
 ghost use Rattle.rl_model.specs.declared.report.Outcome.{Outcome};
 ghost use Rattle.rl_model.specs.Network.{IsTrainOf};
@@ -109,8 +110,8 @@ pub fn read_outcome(net: &Network, line: &[u8]) -> Option<(TrainId, Outcome)>
 
 /// The number that the word writes, if it is one of attempts.
 fn tries_of(word: &[u8]) -> Option<u32>
-    ensures some { IfSome result (λ n. (MIN_TRIES ≤ n) × (n ≤ MAX_TRIES) × (word.now ≡ decimal n)) }
-    ensures none { IfNone result ((n : ℕ) → MIN_TRIES ≤ n → n ≤ MAX_TRIES → word.now ≢ decimal n) }
+    ensures some { IfSome result (λ n. (MIN_TRIES ≤ n) × AreFewTries n × (word.now ≡ decimal n)) }
+    ensures none { IfNone result ((n : ℕ) → MIN_TRIES ≤ n → AreFewTries n → word.now ≢ decimal n) }
 {
     match read_number(word) {
         Some(n) if u64::from(MIN_TRIES) <= n && n <= u64::from(MAX_TRIES) => Some(n as u32),
@@ -120,9 +121,9 @@ fn tries_of(word: &[u8]) -> Option<u32>
 
 /// Reads the words of the second line: the attempts.
 pub(crate) fn read_tries(words: &mut Words<'_>) -> Option<u32>
-    ensures some { IfSome result (λ n. (MIN_TRIES ≤ n) × (n ≤ MAX_TRIES)
+    ensures some { IfSome result (λ n. (MIN_TRIES ≤ n) × AreFewTries n
         × (words.old ≡ codes "tries" ∷ decimal n ∷ [])) }
-    ensures none { IfNone result ((n : ℕ) → MIN_TRIES ≤ n → n ≤ MAX_TRIES
+    ensures none { IfNone result ((n : ℕ) → MIN_TRIES ≤ n → AreFewTries n
         → words.old ≢ codes "tries" ∷ decimal n ∷ []) }
 {
     if words.next()? != b"tries".as_slice() {
