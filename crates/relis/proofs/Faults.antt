@@ -1,14 +1,11 @@
 -- The fault of a text is its first refusal.
-use Rattle.std.proofs.Common.{◌≡◌, ℕ, List, Some, Ok, Err, refl}
+use Rattle.std.proofs.Common.{◌≡◌, ℕ, List, Ok, Err, refl}
 use Rattle.rl_base.specs.declared.draft.Draft.{Draft}
-use Rattle.rl_base.specs.declared.place.Place.{Place}
 use Rattle.rl_syntax.specs.declared.refusal.SyntaxRefusal.{SyntaxRefusal}
 use Rattle.rl_syntax.specs.declared.refusal.SyntaxRefusal.TheVariants as syntax
 use Rattle.rl_syntax.specs.Answer.{UnlessMemory}
 use Rattle.rl_syntax.specs.Meaning.{Means}
 use Rattle.rl_syntax.specs.SyntaxRefusals as reading
-use Rattle.rl_drafts.specs.Search.{first_refusal}
-use Rattle.rl_drafts.proofs.Refusals.{first_refusal-some}
 use Rattle.rl_model.specs.declared.network.NetworkPlan.{NetworkPlan}
 use Rattle.rl_net.specs.declared.refusal.NetRefusal.{NetRefusal}
 use Rattle.rl_net.specs.declared.refusal.NetRefusal.TheVariants as rule
@@ -27,15 +24,11 @@ pub by_reading : (text : List ℕ) (r : SyntaxRefusal) → (r ≡ syntax.NoMemor
 by_reading text syntax.NoMemory some means = absurd (some refl)
 by_reading text r some means = unread r means
 
-at_rule : (text : List ℕ) (d : Draft) (n : ℕ) (p : Place) → Means text (Ok d) → first_refusal d ≡ Some (record { number = n; place = p }) →
-    IsRefusedAs text n p
-at_rule text d n p says first = broken d n p says (first_refusal-some d (record { number = n; place = p }) first)
-
 -- the first rule that the draft of a text breaks refuses the text
 pub by_rule : (text : List ℕ) (d : Draft) (r : NetRefusal) → (r ≡ rule.NoMemory → ⊥) → Means text (Ok d) →
-    IsRefusal r (first_refusal d) → IsRefusedAs text (network.refusal_number r) (network.refusal_place r)
+    IsRefusal d r → IsRefusedAs text (network.refusal_number r) (network.refusal_place r)
 by_rule text d rule.NoMemory some says first = absurd (some refl)
-by_rule text d r some says first = at_rule text d (network.refusal_number r) (network.refusal_place r) says first
+by_rule text d r some says first = broken d (network.refusal_number r) (network.refusal_place r) says first
 
 -- a refusal of the reading of a report refuses it, unless memory ran out
 pub by_report : (net : NetworkPlan) (text : List ℕ) (r : ReportRefusal) → (r ≡ report.NoMemory → ⊥) → IsCause net text r →

@@ -11,7 +11,6 @@ use crate::drive::driven;
 use crate::lines::put_count;
 use rl_base::NoMemory;
 use rl_base::limits::{DEFAULT_TRIES, MAX_MAKE};
-use rl_drafts::first_refusals;
 use rl_make::make_draft;
 use rl_model::{Fate, Move, Outcome, Report};
 use rl_net::{NetRefusal, Network, check};
@@ -28,7 +27,6 @@ fn made_network(alloc: Global, n: u32) -> Result<Network, NoMemory>
     requires few { n ≤ MAX_MAKE }
     ensures { IfOk result (λ net. net ≡ network_of (ring n)) }
 {
-    first_refusals();
     match check(alloc, make_draft(alloc, n)?) {
         Ok(net) => Ok(net),
         Err(NetRefusal::NoMemory) => Err(NoMemory),

@@ -183,6 +183,6 @@ pub fn read_move(net: &Network, line: &[u8]) -> Option<Move>
     ensures none { IfNone result ((m : Move) → IsMoveLine net.now line.now m → ⊥) }
 {
     // What acceptance gave, for the proof.
-    let _trains = net.trains();
+    net.accepted();
     read_words(line, net)
 }

@@ -104,7 +104,7 @@ pub fn read_outcome(net: &Network, line: &[u8]) -> Option<(TrainId, Outcome)>
     ensures none { IfNone result ((t : TrainId) (o : Outcome) → IsOutcomeLine net.now line.now t.0 o → ⊥) }
 {
     // What acceptance gave, for the proof.
-    let _trains = net.trains();
+    net.accepted();
     read_outcome_words(&mut Words::new(line), net)
 }
 

@@ -131,7 +131,7 @@ impl<'a> ReportLines<'a> {
             → IsFirstFault net.now text n) }
     {
         // What acceptance gave, for the proof.
-        let _trains = net.trains();
+        net.accepted();
         match self.peek() {
             Some(line) => match outcome_of(net, t, line) {
                 Some(o) => {
@@ -156,7 +156,7 @@ impl<'a> ReportLines<'a> {
             → IsFirstFault net.now text n) }
     {
         // What acceptance gave, for the proof.
-        let _trains = net.trains();
+        net.accepted();
         if !is_last_line(self.peek()) {
             return Err(self.next_number());
         }
@@ -227,7 +227,7 @@ fn outcome_of(net: &Network, t: TrainId, line: &[u8]) -> Option<Outcome>
     ensures none { IfNone result ((o : Outcome) → IsOutcomeLine net.now line.now t.0 o → ⊥) }
 {
     // What acceptance gave, for the proof.
-    let _trains = net.trains();
+    net.accepted();
     match read_outcome(net, line) {
         Some((u, o)) if u == t => Some(o),
         _ => None,

@@ -173,7 +173,7 @@ pub fn tables_text(alloc: Global, net: &Network, line: &Line) -> Result<Out, NoM
     requires { AreTablesOf net.now line.now }
     ensures { IfOk result (λ out. out ≡ tables_text net.now line.now) }
 {
-    let _layout = net.layout();
+    net.accepted();
     let mut out = Out::new(alloc);
     out.text(b"relis tables 1\n")?;
     put_boxes(&mut out, net, line)?;
