@@ -11,7 +11,8 @@ use rl_net::{NetRefusal, Network, check};
 use rl_syntax::{SyntaxRefusal, read_draft};
 use std::alloc::Global;
 
-fn refused(number: u32, place: Place) -> Status
+/// The status of a text that is refused.
+pub fn refused(number: u32, place: Place) -> Status
     ensures { result ≡ Status.Refused number place }
 {
     Status::Refused { number, place }

@@ -55,7 +55,7 @@ fn makes_rings(rt: HostRuntime) -> Result<(), Fail> {
     assert_parts(&rt, &ring(alloc, 32)?, " U0 D0 M0 L0 U1 D1 ", 129, 33)
 }
 
-/// A train goes three times round, so that its route has 121 names, and is the third part from the end of three.
+/// Each train makes 60 steps over 20 stations, so that its route has 121 names. T1 is the second of three trains.
 #[test]
 fn makes_routes(rt: HostRuntime) -> Result<(), Fail> {
     let out = ring(rt.alloc(), 3)?;

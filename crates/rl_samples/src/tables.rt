@@ -98,12 +98,7 @@ fn assert_tables(
 fn reads_tables(rt: HostRuntime) -> Result<(), Fail> {
     let alloc = rt.alloc();
     let net = network_of(&rt, alloc, STRAIGHT)?;
-    assert_tables(&rt, alloc, &net, STRAIGHT_TABLES, "0 1 1 0 0 0 0 0 0 0 ")
-}
-
-#[test]
-fn reads_tables_of_points(rt: HostRuntime) -> Result<(), Fail> {
-    let alloc = rt.alloc();
+    assert_tables(&rt, alloc, &net, STRAIGHT_TABLES, "0 1 1 0 0 0 0 0 0 0 ")?;
     let net = network_of(&rt, alloc, FORK)?;
     let words = "0 3 12417 2 1 0 8 0 0 0 0 0 0 0 0 0 0 0 ";
     assert_tables(&rt, alloc, &net, FORK_TABLES, words)

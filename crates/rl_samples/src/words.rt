@@ -54,27 +54,15 @@ const FOUR_ARMS: ResvWord = ResvWord {
 };
 
 #[test]
-fn packs_reservations(rt: HostRuntime) {
+fn packs_words(rt: HostRuntime) {
     assert_eq!(rt; TWO_ARMS.pack(), 193);
     assert_eq!(rt; FOUR_ARMS.pack(), 8521760);
-}
-
-#[test]
-fn packs_locks(rt: HostRuntime) {
     assert_eq!(rt; LockWord::Free(Side::Right).pack(), 8);
     assert_eq!(rt; LockWord::Locked(path(0, 0, 1)).pack(), 2052);
     assert_eq!(rt; LockWord::Asked(path(3, 0, 2)).pack(), 4145);
-}
-
-#[test]
-fn packs_mails(rt: HostRuntime) {
     assert_eq!(rt; MailWord::Ask(RESERVE).pack(), 4105);
     assert_eq!(rt; MailWord::No(RESERVE, TrainId(1)).pack(), 69644);
     assert_eq!(rt; MailWord::Ask(LOCK).pack(), 18441);
-}
-
-#[test]
-fn packs_the_words_of_steps(rt: HostRuntime) {
     assert_eq!(rt; RunWord::Clear(1).pack(), 4);
     assert_eq!(rt; RunWord::Clear(64).pack(), 256);
     assert_eq!(rt; SenseWord::Tail(63).pack(), 254);
@@ -82,28 +70,16 @@ fn packs_the_words_of_steps(rt: HostRuntime) {
 
 // There is no train 32, no tag 5, no path from an arm to itself, and nothing in an empty word.
 #[test]
-fn unpacks_reservations(rt: HostRuntime) {
+fn unpacks_words(rt: HostRuntime) {
     assert_eq!(rt; ResvWord::unpack(193), Some(TWO_ARMS));
     assert_eq!(rt; ResvWord::unpack(33), None);
-}
-
-#[test]
-fn unpacks_locks(rt: HostRuntime) {
     let asked = LockWord::Asked(path(3, 0, 2));
     assert_eq!(rt; LockWord::unpack(4145), Some(asked));
     assert_eq!(rt; LockWord::unpack(5), None);
     assert_eq!(rt; LockWord::unpack(4), None);
-}
-
-#[test]
-fn unpacks_mails(rt: HostRuntime) {
     let refused = MailWord::No(RESERVE, TrainId(1));
     assert_eq!(rt; MailWord::unpack(69644), Some(refused));
     assert_eq!(rt; MailWord::unpack(16), None);
-}
-
-#[test]
-fn unpacks_the_words_of_steps(rt: HostRuntime) {
     assert_eq!(rt; RunWord::unpack(5), Some(RunWord::Go(1)));
     assert_eq!(rt; RunWord::unpack(257), None);
     assert_eq!(rt; SenseWord::unpack(256), Some(SenseWord::Quiet(64)));
