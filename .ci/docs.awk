@@ -9,6 +9,24 @@ function tell(good, what) {
     }
 }
 
+# What a line of a source declares: what stands behind a word of declaration or before a colon, and a variant.
+function declare(line, place,    rest, name) {
+    rest = line
+    while (match(rest, /(pub|fn|struct|enum|trait|const|type|mod|abbrev|record|data|ghost|ensures|requires) +[A-Za-z_][A-Za-z0-9_]*/)) {
+        name = substr(rest, RSTART, RLENGTH)
+        rest = substr(rest, RSTART + index(name, " "))
+        sub(/^[a-z]+ +/, "", name)
+        declared[place, name] = 1
+    }
+    rest = line
+    while (match(rest, /[A-Za-z_][A-Za-z0-9_]* *:/) || match(rest, /^ *[A-Z][A-Za-z0-9_]* *[({,]/)) {
+        name = substr(rest, RSTART, RLENGTH)
+        rest = "~" substr(rest, RSTART + RLENGTH)
+        gsub(/[^A-Za-z0-9_]/, "", name)
+        declared[place, name] = 1
+    }
+}
+
 # The words of a text become known in a place.
 function learn(text, place,    words, i, n) {
     n = split(text, words, /[^A-Za-z0-9_]+/)
@@ -88,7 +106,7 @@ function is_known(name,    parts, n, i, one, place) {
 
 function stands_in(name, place,    parts, n) {
     n = split(name, parts, /::|\./)
-    return (place, parts[n]) in in_file
+    return (place, parts[n]) in declared
 }
 
 function stands_in_some(name, list,    paths, n, i) {
@@ -337,7 +355,9 @@ stage == "source" || stage == "doc" {
 stage == "source" {
     source[place] = 1
     # what is imported stands elsewhere
-    learn(text, text ~ /^ *(ghost |pub )*use / ? "" : place)
+    imports = text ~ /^ *(ghost |pub )*use /
+    learn(text, imports ? "" : place)
+    if (!imports) declare(text, place)
     while (match(text, /fn [a-z_0-9]+/)) {
         function_named[substr(text, RSTART + 3, RLENGTH - 3)] = 1
         text = substr(text, RSTART + RLENGTH)
