@@ -50,8 +50,10 @@ arms_named n i j =
     (λ h l.
     let there = before_within n h l in
     none_of_three (λ (x : DraftBox). on_name x.arms j (λ name. not (is_among (each segments_of n) name)))
-    (point_box (entry h) (line (station_before n h)) (upper h) (lower h)) (point_box (exit h) (middle h) (upper h) (lower h)) (joint_box (joint h) (middle h) (line h))
-    (three_there (each segments_of n) (line (station_before n h)) (upper h) (lower h) j (line_is n (station_before n h) there) (upper_is n h l) (lower_is n h l))
+    (point_box (entry h) (line (station_before n h)) (upper h) (lower h))
+    (point_box (exit h) (middle h) (upper h) (lower h)) (joint_box (joint h) (middle h) (line h))
+    (three_there (each segments_of n) (line (station_before n h)) (upper h) (lower h) j
+    (line_is n (station_before n h) there) (upper_is n h l) (lower_is n h l))
     (three_there (each segments_of n) (middle h) (upper h) (lower h) j (middle_is n h l) (upper_is n h l) (lower_is n h l))
     (two_there (each segments_of n) (middle h) (line h) j (middle_is n h l) (line_is n h l))) i
 

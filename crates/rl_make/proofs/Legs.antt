@@ -17,8 +17,8 @@ unfolding legs
 legs-none n i total k h l = let e : total - k ≡ 0 = omega arith in rw e
 
 -- a leg more of the route
-pub leg_step : (n i k h next : ℕ) (route more all : List (List ℕ)) → k < 20 → next ≡ station_after n h → more ≡ route ++ leg n i h → route ++ legs n i (20 - k) h ≡ all
-    → more ++ legs n i (20 - (k + 1)) next ≡ all
+pub leg_step : (n i k h next : ℕ) (route more all : List (List ℕ)) → k < 20 → next ≡ station_after n h
+    → more ≡ route ++ leg n i h → route ++ legs n i (20 - k) h ≡ all → more ++ legs n i (20 - (k + 1)) next ≡ all
 leg_step n i k h next route more all l onward grown whole =
     rw (onward, grown, append_assoc, ← legs-more n i 20 k h l) whole
 

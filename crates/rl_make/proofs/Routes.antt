@@ -58,7 +58,10 @@ legs_alternate n i (suc k) h l =
       exit_is n h l,
       (
         middle_is n h l,
-        (joint_is n h l, (line_is n h l, (entry_is n (station_after n h) m, (platform_is n i (station_after n h) m, legs_alternate n i k (station_after n h) m)))),
+        (
+          joint_is n h l,
+          (line_is n h l, (entry_is n (station_after n h) m, (platform_is n i (station_after n h) m, legs_alternate n i k (station_after n h) m))),
+        ),
       ),
     )
 

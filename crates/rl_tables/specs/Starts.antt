@@ -27,7 +27,8 @@ layout_of tables = record { boxes = length tables.boxes; trains = length tables.
 
 -- the train that starts on segment s, and so holds it at both its ends
 abbrev pub starter_of : Tables → ℕ → Option TrainId
-starter_of tables s = option_map (λ (x : TrainTable). x.number) (find (λ (x : TrainTable). x.first.0 == s) tables.trains)
+starter_of tables s =
+    option_map (λ (x : TrainTable). x.number) (find (λ (x : TrainTable). x.first.0 == s) tables.trains)
 
 -- who holds an arm: the train that starts on the segment there
 abbrev pub arm_holder : Tables → Option SegId → Option TrainId
