@@ -1,5 +1,6 @@
 -- Each line of the sentences of a box is a step of the whole state.
-use Rattle.std.proofs.Common.{◌≡◌, ◌≢◌, ℕ, ◌<◌, ◌≤◌, ◌==◌, Bool, true, false, cond, slice_get, Option, Some, None, option_and_then, refl, sym, ap, ◌∙◌, subst, arith}
+use Rattle.std.proofs.Common.{◌≡◌, ◌≢◌, ℕ, ◌<◌, ◌≤◌, ◌==◌, Bool, true, false, cond, slice_get, Option, Some, None, option_and_then, refl, sym, ap, ◌∙◌, subst}
+use Rattle.std.proofs.Common.{arith}
 use Rattle.std.specs.Prelude.{nat_lt, is_some, option_map}
 use Rattle.std.specs.Option.{option_map_or}
 use Rattle.std.proofs.Math.Path.{fun_ext}
@@ -33,13 +34,15 @@ use Rattle.rl_box.specs.declared.mind.Work.{Work}
 use Rattle.rl_box.specs.declared.mind.Work.TheVariants.{Ready, Serve, Say}
 use Rattle.rl_box.specs.Mind.{box_at}
 use Rattle.rl_box.specs.Steps.{BoxStep, has_arms, path_of, other_side}
-use Rattle.rl_box.specs.Steps.BoxStep.{take as takes, reserve as reserves, refuse as refuses, release as releases, lock as lock_it, ask as asks_points, moved as sees_moved, unlock as unlocks, say_yes as says_yes, say_refused as says_refused, say_barred as says_barred, busy as is_busy}
+use Rattle.rl_box.specs.Steps.BoxStep.{take as takes, reserve as reserves, refuse as refuses, release as releases, lock as lock_it, ask as asks_points}
+use Rattle.rl_box.specs.Steps.BoxStep.{moved as sees_moved, unlock as unlocks, say_yes as says_yes, say_refused as says_refused, say_barred as says_barred}
+use Rattle.rl_box.specs.Steps.BoxStep.{busy as is_busy}
 use Rattle.rl_protocol.specs.State.{State, put, put_at}
 use Rattle.rl_protocol.specs.Minds.{train, box, row_of, names_arms}
 use Rattle.rl_protocol.specs.Steps.{take, grant, refuse, release, lock_now, lock_ask, lock_moved, unlock, say_yes, say_no, busy}
 use Rattle.rl_protocol.specs.Agreement.{Agrees}
 use Rattle.rl_protocol.specs.TableLine.{line_of}
-use Rattle.rl_protocol.specs.Sentences.{holder_in, HasWord, with_box, Makes}
+use Rattle.rl_protocol.specs.Sentences.{holder_in, StateSays, with_box, MakesStep}
 use Rattle.rl_protocol.proofs.Known.{taken}
 use Rattle.rl_protocol.proofs.Letters.{row_arms, letter_arm}
 use Rattle.rl_protocol.proofs.Paths.{waiting_within}
@@ -127,13 +130,13 @@ module _ (tables : Tables) (s : State) (b : ℕ) (table : BoxTable) (line : IsLi
       let few = few_arms table.kind in
       omega arith
 
-  at_resv : (v : ResvWord) (mind : BoxMind) → Makes (line_of tables) s (nodes.Box (box b)) (Resv (box b) v) (with_box s b mind)
-      → Makes (line_of tables) s (nodes.Box (box b)) (Resv table.number v) (with_box s b mind)
-  at_resv v mind h = subst (λ n. Makes (line_of tables) s (nodes.Box (box b)) (Resv n v) (with_box s b mind)) (sym number) h
+  at_resv : (v : ResvWord) (mind : BoxMind) → MakesStep (line_of tables) s (nodes.Box (box b)) (Resv (box b) v) (with_box s b mind)
+      → MakesStep (line_of tables) s (nodes.Box (box b)) (Resv table.number v) (with_box s b mind)
+  at_resv v mind h = subst (λ n. MakesStep (line_of tables) s (nodes.Box (box b)) (Resv n v) (with_box s b mind)) (sym number) h
 
-  at_lock : (v : LockWord) (mind : BoxMind) → Makes (line_of tables) s (nodes.Box (box b)) (Lock (box b) v) (with_box s b mind)
-      → Makes (line_of tables) s (nodes.Box (box b)) (Lock table.number v) (with_box s b mind)
-  at_lock v mind h = subst (λ n. Makes (line_of tables) s (nodes.Box (box b)) (Lock n v) (with_box s b mind)) (sym number) h
+  at_lock : (v : LockWord) (mind : BoxMind) → MakesStep (line_of tables) s (nodes.Box (box b)) (Lock (box b) v) (with_box s b mind)
+      → MakesStep (line_of tables) s (nodes.Box (box b)) (Lock table.number v) (with_box s b mind)
+  at_lock v mind h = subst (λ n. MakesStep (line_of tables) s (nodes.Box (box b)) (Lock n v) (with_box s b mind)) (sym number) h
 
   -- the state with the mind and one word written
   written : (resv : ℕ → ℕ → Option TrainId) (lock : ℕ → LockWord) (m n : BoxMind) → m ≡ n
@@ -141,7 +144,7 @@ module _ (tables : Tables) (s : State) (b : ℕ) (table : BoxTable) (line : IsLi
   written resv lock m n h = ap (λ x. record s { boxes = put s.boxes b x; resv = resv; lock = lock }) h
 
   pub box_makes : (tries : ℕ) (before : BoxMind) (w v : Word) (mind : BoxMind) → Agrees (line_of tables) tries s → s.boxes b ≡ before
-      → BoxStep table before w v mind → HasWord s w → Makes (line_of tables) s (nodes.Box (box b)) v (with_box s b mind)
+      → BoxStep table before w v mind → StateSays s w → MakesStep (line_of tables) s (nodes.Box (box b)) v (with_box s b mind)
   box_makes tries before w v mind agrees is (takes t l waiting to arms) has =
       record {
         step = take b t.0 l;
@@ -207,10 +210,10 @@ module _ (tables : Tables) (s : State) (b : ℕ) (table : BoxTable) (line : IsLi
   box_makes tries before w v mind agrees is (sees_moved p) has =
       moved_makes
     where
-      moved_makes : Makes (line_of tables) s (nodes.Box (box b)) (Lock table.number (Locked p))
+      moved_makes : MakesStep (line_of tables) s (nodes.Box (box b)) (Lock table.number (Locked p))
           (with_box s b (box_at (Say p.train (about_passage table.number verbs.Lock p.x p.y) answers.Yes) None))
       moved_makes =
-          subst (λ n. Makes (line_of tables) s (nodes.Box (box b)) (Lock n (Locked p))
+          subst (λ n. MakesStep (line_of tables) s (nodes.Box (box b)) (Lock n (Locked p))
           (with_box s b (box_at (Say p.train (about_passage n verbs.Lock p.x p.y) answers.Yes) None))) (sym number)
           (record {
             step = lock_moved b p;

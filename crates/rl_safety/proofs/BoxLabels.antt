@@ -1,5 +1,6 @@
 -- Each step of a box and of its point machine is a step of the protocol.
-use Rattle.std.proofs.Common.{◌≡◌, ◌≢◌, ℕ, zero, suc, ◌<◌, ◌≤◌, ◌==◌, nat_lt, Bool, true, false, ◌&&◌, Option, Some, None, refl, sym, ap, ◌∙◌, subst, inl, inr, arith}
+use Rattle.std.proofs.Common.{◌≡◌, ◌≢◌, ℕ, zero, suc, ◌<◌, ◌≤◌, ◌==◌, nat_lt, Bool, true, false, ◌&&◌, Option, Some, None, refl, sym, ap, ◌∙◌, subst, inl, inr}
+use Rattle.std.proofs.Common.{arith}
 use Rattle.std.proofs.Math.Path.{fun_ext}
 use Rattle.std.proofs.lemmas.Bool.{cases_eq, cases_lt, ne_eqb}
 use Rattle.std.proofs.lemmas.Bool.Decides.{nat_tests}
@@ -34,12 +35,15 @@ use Rattle.rl_track.specs.Machine.{MachineStep}
 use Rattle.rl_track.specs.Machine.MachineStep.{throw, settle}
 use Rattle.rl_runs.specs.declared.mind.Mind.TheVariants.{Box, Machine}
 use Rattle.rl_protocol.specs.State.{State, put, put_at}
-use Rattle.rl_protocol.specs.Steps.Step.{take as take_label, grant as grant_label, refuse as refuse_label, release as release_label, lock_now as lock_now_label, lock_ask as lock_ask_label, lock_moved as lock_moved_label, unlock as unlock_label, say_yes as say_yes_label, say_no as say_no_label, busy as busy_label, throw as throw_label, settle as settle_label}
+use Rattle.rl_protocol.specs.Steps.Step.{take as take_label, grant as grant_label, refuse as refuse_label, release as release_label, lock_now as lock_now_label}
+use Rattle.rl_protocol.specs.Steps.Step.{lock_ask as lock_ask_label, lock_moved as lock_moved_label, unlock as unlock_label, say_yes as say_yes_label}
+use Rattle.rl_protocol.specs.Steps.Step.{say_no as say_no_label, busy as busy_label, throw as throw_label, settle       as settle_label}
 use Rattle.rl_protocol.specs.TableLine.{line_of}
-use Rattle.rl_safety.specs.Reading.{holder_of}
+use Rattle.rl_safety.specs.Reading.{holder_read}
 use Rattle.rl_safety.specs.Railway.{segment_of}
 use Rattle.rl_safety.specs.Moves.{arm_move, resv_move}
-use Rattle.rl_safety.specs.Labels.{IsLabel, Says}
+use Rattle.rl_protocol.specs.Sentences.{StateSays}
+use Rattle.rl_safety.specs.Labels.{IsLabel}
 use Rattle.rl_safety.proofs.Words.{resv_with}
 
 -- one arm of a reservation word, as the words' own laws have it
@@ -65,7 +69,7 @@ letter_arm x l is = let few : arms_of x.kind ≤ 4 = few_arms x.kind in let ther
 
 -- the arms of a box after one of them is written
 resv_put : KeepsArms → (f : ℕ → ℕ → Option TrainId) (b : BoxId) (w : ResvWord) (x : ℕ) (arm : Option TrainId) → x < 4
-    → ((y : ℕ) → f b.0 y ≡ holder_of (Some w) y) → put_at f b.0 x arm ≡ resv_with f b (with_arm w x arm)
+    → ((y : ℕ) → f b.0 y ≡ holder_read (Some w) y) → put_at f b.0 x arm ≡ resv_with f b (with_arm w x arm)
 resv_put law f b w x arm small says =
     fun_ext (λ c. fun_ext (λ y. elim (cases_eq c b.0) [
       | inl same ↦
@@ -89,7 +93,7 @@ resv_put law f b w x arm small says =
     ]))
 
 -- and where none is
-resv_stays : (f : ℕ → ℕ → Option TrainId) (b : BoxId) (w : ResvWord) → ((y : ℕ) → f b.0 y ≡ holder_of (Some w) y) → f ≡ resv_with f b w
+resv_stays : (f : ℕ → ℕ → Option TrainId) (b : BoxId) (w : ResvWord) → ((y : ℕ) → f b.0 y ≡ holder_read (Some w) y) → f ≡ resv_with f b w
 resv_stays f b w says =
     fun_ext (λ c. fun_ext (λ y. elim (cases_eq c b.0) [
       | inl same ↦ let test : (b.0 == b.0) ≡ true = grind (arith, nat_tests) in rw (same, test) (says y)
@@ -130,7 +134,7 @@ resv_released tables b w (suc (suc (suc zero))) t small held =
 resv_released tables b w (suc (suc (suc (suc x)))) t small held = absurd (omega arith)
 
 -- the arm that the state has
-says_arm : (s : State) (b : BoxId) (w : ResvWord) (x : ℕ) → x < 4 → Says s (Resv b w) → s.resv b.0 x ≡ arm_in w x
+says_arm : (s : State) (b : BoxId) (w : ResvWord) (x : ℕ) → x < 4 → StateSays s (Resv b w) → s.resv b.0 x ≡ arm_in w x
 says_arm s b w x small says = let within : nat_lt x 4 ≡ true = grind (arith, nat_tests) in says x ∙ (rw within refl)
 
 other_number : (u t : TrainId) → u ≢ t → u.0 ≢ t.0
@@ -143,7 +147,7 @@ refusable : (verb is : Verb) → verb ≡ is → IsRefusable is → IsRefusable 
 refusable verb is same may = subst IsRefusable (sym same) may
 
 pub box_label : KeepsArms → (tables : Tables) (lay : Layout) (s : State) (x : BoxTable) (m after : BoxMind) (seen left : Word)
-    → IsBoxHere tables lay s x m → Says s seen → BoxStep x m seen left after → IsLabel tables s (nodes.Box x.number) (Box after) seen left
+    → IsBoxHere tables lay s x m → StateSays s seen → BoxStep x m seen left after → IsLabel tables s (nodes.Box x.number) (Box after) seen left
 box_label law tables lay s x m after seen left here says (take t l waiting to arms) =
     record {
       step = take_label x.number.0 t.0 l;
@@ -249,7 +253,7 @@ box_label law tables lay s x m after seen left here says (busy t l p verb differ
       by = refl;
     }
 
-pub machine_label : (tables : Tables) (s : State) (b : BoxId) (m after : MachineMind) (seen left : Word) → Says s seen
+pub machine_label : (tables : Tables) (s : State) (b : BoxId) (m after : MachineMind) (seen left : Word) → StateSays s seen
     → MachineStep b m seen left after → IsLabel tables s (nodes.Machine b) (Machine after) seen left
 machine_label tables s b m after seen left says (throw mind p) = record { step = throw_label b.0 p; fits = says; leaves = refl; moves = refl; by = refl }
 machine_label tables s b m after seen left says (settle mind p) = record { step = settle_label b.0 p; fits = says; leaves = refl; moves = refl; by = refl }

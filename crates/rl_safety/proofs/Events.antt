@@ -1,7 +1,8 @@
 -- Each event that fits a state is a step of the protocol there.
-use Rattle.std.proofs.Common.{◌≡◌, ℕ, ◌+◌, ◌*◌, ◌^◌, ◌<◌, nat_lt, true, length, slice_get, Option, Some, None, option_map, refl, sym, ap, ◌∙◌, subst, arith}
+use Rattle.std.proofs.Common.{◌≡◌, ℕ, ◌+◌, ◌*◌, ◌<◌, nat_lt, true, length, slice_get, Option, Some, None, option_map, refl, sym, ap, ◌∙◌, subst, arith}
 use Rattle.std.specs.Prelude.{is_some, unwrap_or}
 use Rattle.std.proofs.lemmas.Bool.Decides.{nat_tests}
+use Rattle.rl_base.specs.Numbers.{IsU32}
 use Rattle.rl_base.specs.declared.ids.BoxId.{BoxId}
 use Rattle.rl_base.specs.declared.ids.SegId.{SegId}
 use Rattle.rl_base.specs.declared.ids.TrainId.{TrainId}
@@ -53,11 +54,11 @@ use Rattle.rl_protocol.specs.State.{State}
 use Rattle.rl_protocol.specs.Steps.{Step, StepFits, next}
 use Rattle.rl_protocol.specs.StepMoves as moves
 use Rattle.rl_protocol.specs.Nodes.{node_of}
-use Rattle.rl_protocol.specs.TableLine.{line_of}
-use Rattle.rl_safety.specs.Labels.{IsLabel, Says}
+use Rattle.rl_protocol.specs.TableLine.{line_of, row_at}
+use Rattle.rl_protocol.specs.Sentences.{StateSays}
+use Rattle.rl_safety.specs.Labels.{IsLabel}
 use Rattle.rl_safety.specs.Moves.{move_of}
-use Rattle.rl_safety.specs.Railway.{row_at}
-use Rattle.rl_safety.specs.Reading.{read, payload_of, holder_of}
+use Rattle.rl_safety.specs.Reading.{read, payload_of, holder_read}
 use Rattle.rl_safety.proofs.BoxLabels.{KeepsArms, IsBoxHere, box_label, machine_label}
 use Rattle.rl_safety.proofs.Effects.{state_after}
 use Rattle.rl_safety.proofs.Minds.{IsBy}
@@ -75,27 +76,27 @@ read_back laws kind n word is = subst (λ (k : ℕ). read_word (kind_of word) k 
 
 -- the state says of a word what is read of it
 pub says_read : (tables : Tables) (tries : ℕ) (c : CoreState) (kind : WordKind) (payload : ℕ) (seen : Word) → payload_of tables c kind ≡ payload
-    → read_word kind payload ≡ Some seen → Says (read tables tries c) seen
+    → read_word kind payload ≡ Some seen → StateSays (read tables tries c) seen
 says_read tables tries c kinds.Still payload seen is reads = absurd (cc)
 says_read tables tries c (kinds.Resv b) payload seen is reads =
     let got = from_map (Resv b) (read_resv payload) seen reads in
-    let S : Word → Type 0 = λ w. Says (read tables tries c) w in
-    subst S got.2 (λ x. ap (λ o. holder_of o x) (ap read_resv is ∙ got.1))
+    let S : Word → Type 0 = λ w. StateSays (read tables tries c) w in
+    subst S got.2 (λ x. ap (λ o. holder_read o x) (ap read_resv is ∙ got.1))
 says_read tables tries c (kinds.Lock b) payload seen is reads =
     let got = from_map (Lock b) (read_lock payload) seen reads in
-    let S : Word → Type 0 = λ w. Says (read tables tries c) w in
+    let S : Word → Type 0 = λ w. StateSays (read tables tries c) w in
     subst S got.2 (ap (λ o. unwrap_or o (Free Left)) (ap read_lock is ∙ got.1))
 says_read tables tries c (kinds.Mail t) payload seen is reads =
     let got = from_map (Mail t) (read_mail payload) seen reads in
-    let S : Word → Type 0 = λ w. Says (read tables tries c) w in
+    let S : Word → Type 0 = λ w. StateSays (read tables tries c) w in
     subst S got.2 (ap (λ o. unwrap_or o Empty) (ap read_mail is ∙ got.1))
 says_read tables tries c (kinds.Run t) payload seen is reads =
     let got = from_map (Run t) (read_run payload) seen reads in
-    let S : Word → Type 0 = λ w. Says (read tables tries c) w in
+    let S : Word → Type 0 = λ w. StateSays (read tables tries c) w in
     subst S got.2 (ap (λ o. unwrap_or o (Clear 0)) (ap read_run is ∙ got.1))
 says_read tables tries c (kinds.Sense t) payload seen is reads =
     let got = from_map (Sense t) (read_sense payload) seen reads in
-    let S : Word → Type 0 = λ w. Says (read tables tries c) w in
+    let S : Word → Type 0 = λ w. StateSays (read tables tries c) w in
     subst S got.2 (ap (λ o. unwrap_or o (Quiet 0)) (ap read_sense is ∙ got.1))
 
 -- the minds that the state has
@@ -157,7 +158,7 @@ pub record IsStepAt (tables : Tables) (s : State) (node : NodeKind) (kind : Word
   pub saw : read_word kind payload ≡ Some seen
   pub kind_left : kind_of left ≡ kind
   pub reads : read_word (kind_of left) made.0 ≡ Some left
-  pub small : made.0 < 2 ^ 32
+  pub small : IsU32 made.0
   pub mind : IsMindOf tables node made.1
   pub label : IsLabel tables s node made.1 seen left
 
