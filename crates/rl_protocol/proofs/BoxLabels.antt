@@ -60,13 +60,13 @@ mind_with : (m : BoxMind) (work new : Work) (waiting : Option Path) → m ≡ bo
 mind_with m work new waiting h = ap (λ x. reworked x new) h
 
 -- a word that is written as it was
-same_lock : (lock : ℕ → LockWord) (b : ℕ) (v : LockWord) → lock b ≡ v → lock ≡ put lock b v
+pub same_lock : (lock : ℕ → LockWord) (b : ℕ) (v : LockWord) → lock b ≡ v → lock ≡ put lock b v
 same_lock lock b v h = fun_ext (λ c. at c)
   where
     at : (c : ℕ) → lock c ≡ put lock b v c
     at c = grind (arith, nat_tests)
 
-same_resv : (resv : ℕ → ℕ → Option TrainId) (b : ℕ) (v : ResvWord) → ((x : ℕ) → resv b x ≡ holder_in v x)
+pub same_resv : (resv : ℕ → ℕ → Option TrainId) (b : ℕ) (v : ResvWord) → ((x : ℕ) → resv b x ≡ holder_in v x)
     → resv ≡ (λ c x. cond (c == b) (holder_in v x) (resv c x))
 same_resv resv b v h = fun_ext (λ c. fun_ext (λ x. at c x))
   where
@@ -77,7 +77,7 @@ same_resv resv b v h = fun_ext (λ c. fun_ext (λ x. at c x))
 one_arm : (w : ResvWord) (x y : ℕ) (o : Option TrainId) → x < 4 → holder_in (with_arm w x o) y ≡ cond (y == x) o (holder_in w y)
 one_arm w x y o h = grind (arith, nat_tests)
 
-new_resv : (resv : ℕ → ℕ → Option TrainId) (b x : ℕ) (v : ResvWord) (o : Option TrainId) → x < 4 → ((y : ℕ) → resv b y ≡ holder_in v y)
+pub new_resv : (resv : ℕ → ℕ → Option TrainId) (b x : ℕ) (v : ResvWord) (o : Option TrainId) → x < 4 → ((y : ℕ) → resv b y ≡ holder_in v y)
     → put_at resv b x o ≡ (λ c y. cond (c == b) (holder_in (with_arm v x o) y) (resv c y))
 new_resv resv b x v o four h = fun_ext (λ c. fun_ext (λ y. at c y))
   where
@@ -88,7 +88,7 @@ new_resv resv b x v o four h = fun_ext (λ c. fun_ext (λ y. at c y))
 pub four_arms : (w : ResvWord) (x : ℕ) → x < 4 → holder_in w x ≡ arm_in w x
 four_arms w x h = ap (λ c. cond c (arm_in w x) None) (lt-ltb x 4 h)
 
-few_arms : (kind : Kind) → arms_of kind ≤ 4
+pub few_arms : (kind : Kind) → arms_of kind ≤ 4
 few_arms Buffer = omega arith
 few_arms Joint = omega arith
 few_arms Point = omega arith

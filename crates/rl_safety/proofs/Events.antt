@@ -59,7 +59,7 @@ use Rattle.rl_protocol.specs.Sentences.{StateSays}
 use Rattle.rl_safety.specs.Labels.{IsLabel}
 use Rattle.rl_safety.specs.Moves.{move_of}
 use Rattle.rl_safety.specs.Reading.{read, payload_of, holder_read}
-use Rattle.rl_safety.proofs.BoxLabels.{KeepsArms, IsBoxHere, box_label, machine_label}
+use Rattle.rl_safety.proofs.BoxLabels.{IsBoxHere, box_label, machine_label}
 use Rattle.rl_safety.proofs.Effects.{state_after}
 use Rattle.rl_safety.proofs.Minds.{IsBy}
 use Rattle.rl_safety.proofs.Payloads.{payload_of_stamped}
@@ -253,11 +253,11 @@ track_event laws words tables tries c t m kind payload made there mind sound ent
           (track_here tables tries c t m there mind) says enters leaves kept.step;
     }
 
-pub box_event : StepsKeep → ReadsWords → KeepsArms → (tables : Tables) (tries : ℕ) (c : CoreState) (b : BoxId) (m : BoxMind) (kind : WordKind)
+pub box_event : StepsKeep → ReadsWords → (tables : Tables) (tries : ℕ) (c : CoreState) (b : BoxId) (m : BoxMind) (kind : WordKind)
     (payload : ℕ) (made : ℕ × Mind) → IsLine tables → HasWord (layout_of tables) kind → b.0 < length tables.boxes
     → c.minds (2 * length tables.trains + b.0) ≡ Box m → IsMindOf tables (nodes.Box b) (Box m) → payload_of tables c kind ≡ payload
     → step_of tables (nodes.Box b) (Box m) kind payload ≡ Some made → IsStepAt tables (read tables tries c) (nodes.Box b) kind payload made
-box_event laws words arms tables tries c b m kind payload made line has there mind sound is step =
+box_event laws words tables tries c b m kind payload made line has there mind sound is step =
     let found = from_then (λ (x : BoxTable). as_mind Box (box_step x m kind payload)) (slice_get tables.boxes b.0) made step in
     let x : BoxTable = found.0 in
     let stepped = from_map (λ (r : ℕ × BoxMind). let pair : ℕ × Mind = (r.0, Box r.1) in pair) (box_step x m kind payload) made found.2 in
@@ -275,7 +275,7 @@ box_event laws words arms tables tries c b m kind payload made line has there mi
       arms = λ i. arms_there tables x.number.0 x i line there_at;
       work = (sound x found.1).work;
     } in
-    let label = box_label arms tables (layout_of tables) (read tables tries c) x m stepped.0.1 kept.seen kept.left here says kept.step in
+    let label = box_label tables (layout_of tables) (read tables tries c) x m stepped.0.1 kept.seen kept.left here says kept.step in
     let mine : IsMindOf tables (nodes.Box b) (Box stepped.0.1) =
     λ y y_is. subst (λ (z : BoxTable). IsBoxMind (layout_of tables) z stepped.0.1) (same_some (slice_get tables.boxes b.0) x y found.1 y_is) kept.after_is in
     let P : ℕ × Mind → Type 0 = λ r. IsStepAt tables (read tables tries c) (nodes.Box b) kind payload r in

@@ -46,7 +46,6 @@ use Rattle.rl_protocol.specs.TableLine.{line_of, no_row, row_at}
 use Rattle.rl_safety.specs.Counts.{events_by}
 use Rattle.rl_safety.specs.Stepped.{IsStepped}
 use Rattle.rl_safety.specs.Reading.{read, payload_of}
-use Rattle.rl_safety.proofs.BoxLabels.{KeepsArms}
 use Rattle.rl_safety.proofs.Events.{ReadsWords, IsStepAt, IsEventStep, from_step, train_event, track_event, box_event, machine_event}
 use Rattle.rl_safety.proofs.Payloads.{payload_read}
 use Rattle.rl_safety.proofs.Started.{ReadsValues, start_read}
@@ -55,7 +54,6 @@ use Rattle.rl_safety.proofs.Started.{ReadsValues, start_read}
 pub record Laws : Type 0 where
   pub steps : StepsKeep
   pub words : ReadsWords
-  pub arms : KeepsArms
 
 -- a step that a route has
 row_within : (o : Option TrainTable) (k : ℕ) → k < option_map_or (λ (x : TrainTable). length x.rows) o 0
@@ -130,7 +128,7 @@ node_event laws tables tries c (nodes.Track t) (Machine m) kind payload made lin
 node_event laws tables tries c (nodes.Box b) (Train m) kind payload made line agrees there has mind sound is step = absurd sound
 node_event laws tables tries c (nodes.Box b) (Track m) kind payload made line agrees there has mind sound is step = absurd sound
 node_event laws tables tries c (nodes.Box b) (Box m) kind payload made line agrees there has mind sound is step =
-    box_event laws.steps laws.words laws.arms tables tries c b m kind payload made line has there mind sound is step
+    box_event laws.steps laws.words tables tries c b m kind payload made line has there mind sound is step
 node_event laws tables tries c (nodes.Box b) (Machine m) kind payload made line agrees there has mind sound is step = absurd sound
 node_event laws tables tries c (nodes.Machine b) (Train m) kind payload made line agrees there has mind sound is step = absurd sound
 node_event laws tables tries c (nodes.Machine b) (Track m) kind payload made line agrees there has mind sound is step = absurd sound

@@ -36,7 +36,7 @@ use rl_protocol as protocol;
 use rl_tables::tables_of_networks;
 use rl_track::{machine_steps, track_steps};
 use rl_train::{train_steps, usable_tables};
-use rl_words::{arms, readings, words};
+use rl_words::{readings, words};
 
 /// Every run of events is a run of steps of the protocol: with the same states, moves and counts.
 pub fn steps_of_events()
@@ -48,7 +48,6 @@ pub fn steps_of_events()
     track_steps();
     box_steps();
     machine_steps();
-    arms();
     words();
     readings();
     protocol::lines_of_tables();

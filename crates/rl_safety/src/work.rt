@@ -20,7 +20,7 @@ use rl_box::{box_lines, box_steps};
 use rl_protocol as protocol;
 use rl_track::{machine_steps, track_steps};
 use rl_train::{train_steps, usable_tables};
-use rl_words::{arms, readings, words};
+use rl_words::{readings, words};
 
 /// After every run each word but the still one can be read.
 pub fn readable_words()
@@ -33,7 +33,6 @@ pub fn readable_words()
     track_steps();
     box_steps();
     machine_steps();
-    arms();
     words();
     readings();
     protocol::lines_of_tables();
