@@ -8,7 +8,7 @@ use Rattle.rl_tables.specs.declared.table.StepRow.{StepRow}
 use Rattle.rl_tables.specs.declared.table.TrainTable.{TrainTable}
 use Rattle.rl_tables.specs.declared.table.Tables.{Tables}
 use Rattle.rl_tables.specs.Kept.{line_kind, line_segment}
-use Rattle.rl_tables.specs.Starts.{start_holder}
+use Rattle.rl_tables.specs.Starts.{starter_of}
 use Rattle.rl_drafts.specs.Examples.{seg, switch_box}
 use Rattle.rl_tables.specs.Examples.{arm}
 use Rattle.rl_protocol.specs.Line.{Line, same_number}
@@ -47,7 +47,7 @@ line_of tables =
       side = λ b. option_map_or (λ (x : BoxTable). x.side) (slice_get tables.boxes b) Left;
       has_arm = λ b x. is_some (line_segment tables b x);
       segment = λ b x. seg (unwrap_or (line_segment tables b x) 0);
-      first_holder = λ b x. option_and_then (start_holder tables) (line_segment tables b x);
+      first_holder = λ b x. option_and_then (starter_of tables) (line_segment tables b x);
       steps = λ t. option_map_or (λ (x : TrainTable). length x.rows) (slice_get tables.trains t) 0;
       row = λ t k. unwrap_or (row_at tables t k) no_row;
       ends = λ t k b x. same_number (line_segment tables b x) (route_of tables t k);

@@ -18,7 +18,7 @@ use Rattle.rl_tables.specs.declared.table.BoxTable.{BoxTable}
 use Rattle.rl_tables.specs.declared.table.TrainTable.{TrainTable}
 use Rattle.rl_tables.specs.declared.table.Tables.{Tables}
 use Rattle.rl_tables.specs.Kept.{IsLine}
-use Rattle.rl_tables.specs.Starts.{layout_of, start_holder, arm_holder, start_resv, start_lock, start_payload}
+use Rattle.rl_tables.specs.Starts.{layout_of, starter_of, arm_holder, start_resv, start_lock, start_payload}
 use Rattle.rl_train.specs.Jobs.{is_near, is_open}
 use Rattle.rl_train.specs.Mind.{IsTrainMind, start_train}
 use Rattle.rl_runs.specs.Numbers.{node_at, word_at}
@@ -26,7 +26,7 @@ use Rattle.rl_runs.specs.State.{start_word, start_mind, start_mind_of}
 use Rattle.rl_runs.specs.Sound.{IsMindOf}
 use Rattle.rl_runs.proofs.Options.{from_map}
 
-pub holder_fits : (tables : Tables) (s : ℕ) (t : TrainId) → IsLine tables → start_holder tables s ≡ Some t → t.0 < 32
+pub holder_fits : (tables : Tables) (s : ℕ) (t : TrainId) → IsLine tables → starter_of tables s ≡ Some t → t.0 < 32
 holder_fits tables s t line is =
     let found = from_map (λ (x : TrainTable). x.number) (find (λ (x : TrainTable). x.first.0 == s) tables.trains) t is in
     let place : ℕ = position_or_len (λ (x : TrainTable). x.first.0 == s) tables.trains in
@@ -43,7 +43,7 @@ code_fits (Some t) fits = let small : t.0 < 32 = fits t refl in omega arith
 
 arm_fits : (tables : Tables) (s : Option SegId) → IsLine tables → arm_code (arm_holder tables s) ≤ 32
 arm_fits tables None line = omega arith
-arm_fits tables (Some s) line = code_fits (start_holder tables s.0) (λ t. holder_fits tables s.0 t line)
+arm_fits tables (Some s) line = code_fits (starter_of tables s.0) (λ t. holder_fits tables s.0 t line)
 
 resv_fits : (tables : Tables) (x : BoxTable) → IsLine tables → packed_resv (start_resv tables x) < 2 ^ 32
 resv_fits tables x line =

@@ -35,7 +35,7 @@ use Rattle.rl_words.specs.Stamps.{payload_in}
 use Rattle.rl_tables.specs.declared.table.BoxTable.{BoxTable}
 use Rattle.rl_tables.specs.declared.table.Tables.{Tables}
 use Rattle.rl_tables.specs.Kept.{IsLine}
-use Rattle.rl_tables.specs.Starts.{layout_of, start_holder, arm_holder, start_resv, start_lock, start_payload}
+use Rattle.rl_tables.specs.Starts.{layout_of, starter_of, arm_holder, start_resv, start_lock, start_payload}
 use Rattle.rl_tables.specs.Tables.{segment_number}
 use Rattle.rl_runs.specs.Numbers.{node_at, train, box}
 use Rattle.rl_runs.specs.State as cores
@@ -184,9 +184,9 @@ locks_start laws tables tries line =
 -- reservations
 arm_fits : (tables : Tables) (s : Option SegId) → IsLine tables → FitsArm (arm_holder tables s)
 arm_fits tables None line = tt
-arm_fits tables (Some s) line = of (start_holder tables s.0) refl
+arm_fits tables (Some s) line = of (starter_of tables s.0) refl
   where
-    of : (o : Option TrainId) → start_holder tables s.0 ≡ o → FitsArm o
+    of : (o : Option TrainId) → starter_of tables s.0 ≡ o → FitsArm o
     of None e = tt
     of (Some t) e = holder_fits tables s.0 t line e
 
@@ -194,12 +194,12 @@ pub resv_fits : (tables : Tables) (x : BoxTable) → IsLine tables → FitsResv 
 resv_fits tables x line =
     record { arm0 = arm_fits tables x.seg0 line; arm1 = arm_fits tables x.seg1 line; arm2 = arm_fits tables x.seg2 line; arm3 = arm_fits tables x.seg3 line }
 
-arm_is : (tables : Tables) (s : Option SegId) → arm_holder tables s ≡ option_and_then (start_holder tables) (option_map (λ (g : SegId). g.0) s)
+arm_is : (tables : Tables) (s : Option SegId) → arm_holder tables s ≡ option_and_then (starter_of tables) (option_map (λ (g : SegId). g.0) s)
 arm_is tables None = refl
 arm_is tables (Some s) = refl
 
 arms_are : (tables : Tables) (x : BoxTable) (i : ℕ)
-    → reading.holder_read (Some (start_resv tables x)) i ≡ option_and_then (start_holder tables) (segment_number x i)
+    → reading.holder_read (Some (start_resv tables x)) i ≡ option_and_then (starter_of tables) (segment_number x i)
 arms_are tables x zero = arm_is tables x.seg0
 arms_are tables x (suc zero) = arm_is tables x.seg1
 arms_are tables x (suc (suc zero)) = arm_is tables x.seg2
@@ -215,7 +215,7 @@ no_arms (suc (suc (suc (suc i)))) = let beyond : nat_lt (suc (suc (suc (suc i)))
 
 resv_start : ReadsValues → (tables : Tables) (o : Option BoxTable) (i : ℕ) → IsLine tables
     → reading.holder_read (read_resv (option_map_or (λ x. packed_resv (start_resv tables x)) o 0)) i
-    ≡ option_and_then (start_holder tables) (option_and_then (λ (x : BoxTable). segment_number x i) o)
+    ≡ option_and_then (starter_of tables) (option_and_then (λ (x : BoxTable). segment_number x i) o)
 resv_start laws tables None i line =
     let none : ResvWord = record { arm0 = None; arm1 = None; arm2 = None; arm3 = None } in
     ap (λ o. reading.holder_read o i) (laws.resv (record { arm0 = None; arm1 = None; arm2 = None; arm3 = None })
@@ -232,7 +232,7 @@ resvs_start laws tables tries line =
       | inr past ↦
           let absent : slice_get tables.boxes b ≡ None = slice_get_past tables.boxes b past.1 in
           ap (λ n. reading.holder_read (read_resv n) i) (payload_absent tables tries (kinds.Resv (box b)) past.0)
-          ∙ (resv_start laws tables None i line ∙ ap (λ (o : Option BoxTable). option_and_then (start_holder tables)
+          ∙ (resv_start laws tables None i line ∙ ap (λ (o : Option BoxTable). option_and_then (starter_of tables)
           (option_and_then (λ (x : BoxTable). segment_number x i) o)) (sym absent))
     ]))
 

@@ -67,8 +67,8 @@ pub record IsRow (tables : Tables) (row : StepRow) : Type 0 where
   pub back_apart : row.a.0 ≢ row.b.0
   pub back_only : IsOnlyAt tables row.s.0 row.b.0 row.x.0 row.a.0 row.a_arm.0
 
--- a train has no more steps than a route may have, the first from its first segment, and each next from where the one before ends. Its
--- first segment has two ends, also where it makes no step
+-- a train has no more steps than a route may have, the first from its first segment, and each next from where the one
+-- before ends. Its first segment has two ends, also where it makes no step
 pub record IsTrain (tables : Tables) (t : ℕ) (x : TrainTable) : Type 0 where
   pub number : x.number.0 ≡ t
   pub short : length x.rows ≤ MAX_STEPS

@@ -80,7 +80,8 @@ impl Out {
 
     /// Appends a line: the first word, the others each after a space, and LF.
     pub fn line(&mut self, first: &[u8], others: &[&[u8]]) -> Result<(), NoMemory>
-        ensures appended { OnOk result (self.new ≡ self.old ++ (join_with_byte 32 (first.now ∷ texts others.now) ++ 10 ∷ [])) }
+        ensures appended { OnOk result
+            (self.new ≡ self.old ++ (join_with_byte 32 (first.now ∷ texts others.now) ++ 10 ∷ [])) }
         ensures begun { OnErr result (IsBeginningOf self.old self.new) }
     {
         self.text(first)?;

@@ -36,17 +36,17 @@ abbrev pub only_if : {A : Type 0} → Bool → A → Option A
 only_if test v = if test then Some v else None
 
 -- who holds an arm, by its six bits
-abbrev pub holder_at : ℕ → Option TrainId
-holder_at zero = None
-holder_at (suc t) = Some (train_id t)
+abbrev pub arm_at : ℕ → Option TrainId
+arm_at zero = None
+arm_at (suc t) = Some (train_id t)
 
 abbrev pub resv_at : ℕ → ResvWord
 resv_at n =
     record {
-      arm0 = holder_at (field n 0 6);
-      arm1 = holder_at (field n 6 6);
-      arm2 = holder_at (field n 12 6);
-      arm3 = holder_at (field n 18 6);
+      arm0 = arm_at (field n 0 6);
+      arm1 = arm_at (field n 6 6);
+      arm2 = arm_at (field n 12 6);
+      arm3 = arm_at (field n 18 6);
     }
 
 abbrev pub fits_arm : Option TrainId → Bool
