@@ -52,7 +52,8 @@ pub rests : (rails : Rails) (line : Tables) (seat : NodeSeat) (mind : Mind) (sca
 rests rails line seat mind scan log turns more parts target raised_is =
     let n = (walk_of seat).node.0 in (
       parts.room,
-      subst (λ (m : Mind). is_train_at_rest line n m ≡ true) (sym parts.whole.mind_is) (no_target_rests line n scan mind parts.whole.there parts.whole.formed target),
+      subst (λ (m : Mind). is_train_at_rest line n m ≡ true) (sym parts.whole.mind_is)
+          (no_target_rests line n scan mind parts.whole.there parts.whole.formed target),
       ap (λ (k : ℕ). node_of rails line seat scan log k) raised_is,
     )
 

@@ -29,10 +29,13 @@ use Rattle.rl_box.specs.declared.mind.Work.{Work}
 use Rattle.rl_box.specs.declared.mind.Work.TheVariants.{Ready, Serve, Say}
 use Rattle.rl_box.specs.Mind.{box_at}
 use Rattle.rl_box.specs.Steps.{BoxStep, has_arms, path_of, other_side}
-use Rattle.rl_box.specs.Steps.BoxStep.{take as takes, reserve as reserves, refuse as refuses, release as releases, lock as lock_it, ask as asks_points, moved as sees_moved, unlock as unlocks, say_yes as says_yes, say_refused as says_refused, say_barred as says_barred, busy as is_busy}
+use Rattle.rl_box.specs.Steps.BoxStep.{take as takes, reserve as reserves, refuse as refuses, release as releases, lock as lock_it, ask as asks_points}
+use Rattle.rl_box.specs.Steps.BoxStep.{moved as sees_moved, unlock as unlocks, say_yes as says_yes, say_refused as says_refused, say_barred as says_barred}
+use Rattle.rl_box.specs.Steps.BoxStep.{busy as is_busy}
 use Rattle.rl_protocol.specs.State.{State}
 use Rattle.rl_protocol.specs.Minds.{train, box, names_arms}
-use Rattle.rl_protocol.specs.Steps.{Step, post, hear_yes, hear_no, go, quiet, take, grant, refuse, release, lock_now, lock_ask, lock_moved, unlock, say_yes, say_no, busy, throw, settle, enter, head, leave, tail, StepFits}
+use Rattle.rl_protocol.specs.Steps.{Step, post, hear_yes, hear_no, go, quiet, take, grant, refuse, release, lock_now, lock_ask, lock_moved, unlock, say_yes}
+use Rattle.rl_protocol.specs.Steps.{say_no, busy, throw, settle, enter, head, leave, tail, StepFits}
 use Rattle.rl_protocol.specs.Nodes.{node_of, word_of}
 use Rattle.rl_protocol.specs.Agreement.{Agrees}
 use Rattle.std.proofs.lemmas.Option.{same_Some}
@@ -40,7 +43,7 @@ use Rattle.rl_protocol.specs.AtWork.{word_for, word_at_work}
 use Rattle.rl_protocol.proofs.Served.{at_work}
 use Rattle.rl_protocol.proofs.TableLines.{consistent_line}
 use Rattle.rl_protocol.specs.TableLine.{line_of}
-use Rattle.rl_protocol.specs.Sentences.{holder_in, HasWord, HasLine}
+use Rattle.rl_protocol.specs.Sentences.{holder_in, StateSays, HasLine}
 use Rattle.rl_protocol.proofs.BoxLabels.{kind_is, arm_is, four, four_arms}
 
 -- a mind by its work
@@ -130,7 +133,8 @@ module _ (tables : Tables) (s : State) (b : ℕ) (table : BoxTable) (line : IsLi
   resv_line tries (leave t k) w agrees fits node word has = absurd (cc)
   resv_line tries (tail t k) w agrees fits node word has = absurd (cc)
 
-  lock_line : (step : Step) (w : LockWord) → StepFits (line_of tables) s step → node_of step ≡ nodes.Box (box b) → word_of step ≡ words.Lock (box b) → s.lock b ≡ w
+  lock_line : (step : Step) (w : LockWord) → StepFits (line_of tables) s step → node_of step ≡ nodes.Box (box b)
+      → word_of step ≡ words.Lock (box b) → s.lock b ≡ w
       → HasLine table (s.boxes b) (Lock (box b) w)
   lock_line (lock_now c t l side) w fits node word has =
       let fit = subst (λ n. StepFits (line_of tables) s (lock_now n t l side)) (same_box c b node) fits in
@@ -219,7 +223,7 @@ module _ (tables : Tables) (s : State) (b : ℕ) (table : BoxTable) (line : IsLi
   -- any step of the box that fits is a line at its word
   pub line_there : (tries : ℕ) (step : Step) (w : Word) → Agrees (line_of tables) tries s → StepFits (line_of tables) s step → node_of step ≡ nodes.Box (box b)
       → word_of step ≡ kind_of w → kind_of w ≡ words.Resv (box b) ⊎ (kind_of w ≡ words.Lock (box b) ⊎ ((u : TrainId) × (kind_of w ≡ words.Mail u)))
-      → HasWord s w → HasLine table (s.boxes b) w
+      → StateSays s w → HasLine table (s.boxes b) w
   line_there tries step (Resv n w) agrees fits node word where_ has = of_resv n (resv_box n where_) word has
     where
       resv_box : (n : BoxId) → (words.Resv n ≡ words.Resv (box b)) ⊎ ((words.Resv n ≡ words.Lock (box b)) ⊎ ((u : TrainId) × (words.Resv n ≡ words.Mail u)))
@@ -267,7 +271,7 @@ module _ (tables : Tables) (s : State) (b : ℕ) (table : BoxTable) (line : IsLi
   work_words (Say t l answer) k h = inr (inr (t, sym (same_Some _ _ h)))
 
   -- a box at work has a line at its word
-  pub work_line : (tries : ℕ) (w : Word) → Agrees (line_of tables) tries s → word_at_work b (s.boxes b).work ≡ Some (kind_of w) → HasWord s w
+  pub work_line : (tries : ℕ) (w : Word) → Agrees (line_of tables) tries s → word_at_work b (s.boxes b).work ≡ Some (kind_of w) → StateSays s w
       → HasLine table (s.boxes b) w
   work_line tries w agrees at has =
       let step = at_work (line_of tables) tries s b (kind_of w) (consistent_line tables line) agrees at in

@@ -14,7 +14,8 @@ use Rattle.rl_protocol.specs.Line.{Line}
 use Rattle.rl_protocol.specs.State.{State}
 use Rattle.rl_box.specs.Steps.{path_of}
 use Rattle.rl_protocol.specs.Minds.{letter_of, letter_of_path, train}
-use Rattle.rl_protocol.specs.Steps.{Step, post, hear_yes, hear_no, go, quiet, take, grant, refuse, release, lock_now, lock_ask, lock_moved, unlock, say_yes, say_no, busy, throw, settle, enter, head, leave, tail, StepFits, next}
+use Rattle.rl_protocol.specs.Steps.{Step, post, hear_yes, hear_no, go, quiet, take, grant, refuse, release, lock_now, lock_ask, lock_moved, unlock, say_yes}
+use Rattle.rl_protocol.specs.Steps.{say_no, busy, throw, settle, enter, head, leave, tail, StepFits, next}
 use Rattle.rl_protocol.specs.Agreement.{asks, Carries, IsAtWork, AgreesOnMailboxes}
 use Rattle.rl_protocol.proofs.Jobs.{letter_not_passing}
 use Rattle.rl_protocol.proofs.Known.{Known, HasTaken}

@@ -1,5 +1,6 @@
 -- Every step's move is guarded in the world of the state before it, and makes that world the one of the state after it.
-use Rattle.std.proofs.Common.{◌≡◌, ◌≢◌, ℕ, ◌+◌, ◌<◌, ◌==◌, Bool, true, false, not, ◌&&◌, ◌||◌, List, [], ◌∷◌, length, zero, suc, slice_get, Option, Some, None, refl, sym, ap, ◌∙◌, subst, inl, inr, ◌⊎◌, arith}
+use Rattle.std.proofs.Common.{◌≡◌, ◌≢◌, ℕ, ◌+◌, ◌<◌, ◌==◌, Bool, true, false, not, ◌&&◌, ◌||◌, List, [], ◌∷◌, length, zero, suc, slice_get, Option, Some, None}
+use Rattle.std.proofs.Common.{refl, sym, ap, ◌∙◌, subst, inl, inr, ◌⊎◌, arith}
 use Rattle.std.specs.Prelude.{is_some, unwrap_or, option_map}
 use Rattle.std.proofs.lemmas.Bool.{eq-eqb, eqb-true, or_right, and_from, and_parts, false≢true}
 use Rattle.std.proofs.lemmas.Bool.Decides.{nat_tests}
@@ -29,12 +30,13 @@ use Rattle.rl_words.specs.declared.mail.Letter.{Letter}
 use Rattle.rl_words.specs.declared.mail.MailWord.TheVariants.{Empty}
 use Rattle.rl_words.specs.declared.run.RunWord.TheVariants.{Clear, Go, Across}
 use Rattle.rl_words.specs.Mail.{IsRefusable}
-use Rattle.rl_protocol.specs.Line.{Line, at, is_held_by, IsConsistent, same_number}
-use Rattle.rl_protocol.specs.Jobs.{passes}
+use Rattle.rl_protocol.specs.Line.{Line, is_held_by, IsConsistent, same_number}
+use Rattle.rl_train.specs.Jobs.{at, is_pass}
 use Rattle.rl_protocol.specs.State.{State}
 use Rattle.rl_box.specs.Steps.{path_of, other_side}
 use Rattle.rl_protocol.specs.Minds.{train, box, row_of, letter_of_path}
-use Rattle.rl_protocol.specs.Steps.{Step, post, hear_yes, hear_no, go, quiet, take, grant, refuse, release, lock_now, lock_ask, lock_moved, unlock, say_yes, say_no, busy, throw, settle, enter, head, leave, tail, StepFits, next}
+use Rattle.rl_protocol.specs.Steps.{Step, post, hear_yes, hear_no, go, quiet, take, grant, refuse, release, lock_now, lock_ask, lock_moved, unlock, say_yes}
+use Rattle.rl_protocol.specs.Steps.{say_no, busy, throw, settle, enter, head, leave, tail, StepFits, next}
 use Rattle.rl_protocol.specs.StepMoves.{move_of, refusal_of, seg_at}
 use Rattle.rl_protocol.specs.Held.{has_done_for, done_in, held_with, locked_with, holds, has_lock, job_holds, job_locks}
 use Rattle.rl_protocol.specs.Agreement.{Agrees, AgreesOnPassage, is_passing, place_of, is_locked_by, path_in_setting, lock_holder, HasWhatIsAsked}
@@ -101,7 +103,7 @@ module _ (net : NetworkPlan) (line : Line) (tries : ℕ) (s : State) (network : 
       (row_arms line t (s.trains t).step laws (waiting_within line tries s t agrees has.waits)) has.letter)
 
   -- a train that asks stands on one segment
-  asks_standing : (t : ℕ) → passes (s.trains t).job ≡ false → s.run t ≡ Clear (place_of (s.trains t))
+  asks_standing : (t : ℕ) → is_pass (s.trains t).job ≡ false → s.run t ≡ Clear (place_of (s.trains t))
   asks_standing t active = let stands = (agrees.passage t).stands in grind (arith, nat_tests)
 
   -- and that isn't what it releases
@@ -120,7 +122,7 @@ module _ (net : NetworkPlan) (line : Line) (tries : ℕ) (s : State) (network : 
 
   passing_mail : (t : ℕ) → is_passing (s.trains t) ≡ true → s.mail t ≡ Empty
   passing_mail t h =
-      let parts = and_parts (s.trains t).waits (passes (s.trains t).job) h in
+      let parts = and_parts (s.trains t).waits (is_pass (s.trains t).job) h in
       agrees.mailboxes.empty t (ap (λ c. (s.trains t).waits && not c) parts.1 ∙ ap (λ c. c && false) parts.0)
 
   -- so it holds and has locked what is of its job
@@ -128,7 +130,7 @@ module _ (net : NetworkPlan) (line : Line) (tries : ℕ) (s : State) (network : 
       → is_held_by t (s.resv b x) ≡ (line.ends t (s.trains t).step b x || line.ends t ((s.trains t).step + 1) b x)
   passing_holding t b x h =
       agrees.reservations.exact t b x ∙ by_job (passing_mail t h)
-      ∙ passing_holds (row_of line t (s.trains t)) (s.trains t).job _ _ b x (and_parts (s.trains t).waits (passes (s.trains t).job) h).1
+      ∙ passing_holds (row_of line t (s.trains t)) (s.trains t).job _ _ b x (and_parts (s.trains t).waits (is_pass (s.trains t).job) h).1
     where
       by_job : s.mail t ≡ Empty → holds line s t b x ≡ job_holds line t (s.trains t) b x
       by_job mail = ap (λ m. held_with (done_in (λ c. has_done_for t (s.boxes c)) m) b x (job_holds line t (s.trains t) b x)) mail
@@ -137,7 +139,7 @@ module _ (net : NetworkPlan) (line : Line) (tries : ℕ) (s : State) (network : 
       → is_locked_by (s.lock b) t x y ≡ (at (row_of line t (s.trains t)).b (row_of line t (s.trains t)).x b x && (row_of line t (s.trains t)).y.0 == y)
   passing_locking t b x y h =
       agrees.locks.exact t b x y ∙ by_job (passing_mail t h)
-      ∙ passing_locks (row_of line t (s.trains t)) (s.trains t).job b x y (and_parts (s.trains t).waits (passes (s.trains t).job) h).1
+      ∙ passing_locks (row_of line t (s.trains t)) (s.trains t).job b x y (and_parts (s.trains t).waits (is_pass (s.trains t).job) h).1
     where
       by_job : s.mail t ≡ Empty → has_lock line s t b x y ≡ job_locks line t (s.trains t) b x y
       by_job mail = ap (λ m. locked_with (done_in (λ c. has_done_for t (s.boxes c)) m) b x y (job_locks line t (s.trains t) b x y)) mail

@@ -1,5 +1,6 @@
 -- The moves of steps name trains, segments and boxes of the network.
-use Rattle.std.proofs.Common.{◌≡◌, ℕ, zero, suc, ◌+◌, ◌<◌, true, List, [], ◌∷◌, ◌++◌, length, slice_get, Option, Some, None, refl, sym, ap, ◌∙◌, subst, inl, inr, ⊎_elim, arith}
+use Rattle.std.proofs.Common.{◌≡◌, ℕ, zero, suc, ◌+◌, ◌<◌, true, List, [], ◌∷◌, ◌++◌, length, slice_get, Option, Some, None, refl, sym, ap, ◌∙◌, subst, inl}
+use Rattle.std.proofs.Common.{inr, ⊎_elim, arith}
 use Rattle.std.specs.Prelude.{option_map, option_to_list}
 use Rattle.std.specs.Option.{option_map_or}
 use Rattle.std.proofs.lemmas.Bool.{false≢true, cases_eq, eq-eqb, and_from}
@@ -24,7 +25,8 @@ use Rattle.rl_box.specs.Steps.{path_of}
 use Rattle.rl_protocol.specs.Line.{Line, same_number, is_held_by, IsConsistent}
 use Rattle.rl_protocol.specs.State.{State}
 use Rattle.rl_protocol.specs.Minds.{train, box}
-use Rattle.rl_protocol.specs.Steps.{Step, post, hear_yes, hear_no, go, quiet, take, grant, refuse, release, lock_now, lock_ask, lock_moved, unlock, say_yes, say_no, busy, throw, settle, enter, head, leave, tail, StepFits}
+use Rattle.rl_protocol.specs.Steps.{Step, post, hear_yes, hear_no, go, quiet, take, grant, refuse, release, lock_now, lock_ask, lock_moved, unlock, say_yes}
+use Rattle.rl_protocol.specs.Steps.{say_no, busy, throw, settle, enter, head, leave, tail, StepFits}
 use Rattle.rl_protocol.specs.StepMoves.{seg_at, refusal_of, move_of}
 use Rattle.rl_protocol.specs.Runs.{state_after, IsStepRun, moves_of}
 use Rattle.rl_protocol.specs.Agreement.{Agrees, is_passing, is_locked_by, lock_holder, HasWhatIsAsked}

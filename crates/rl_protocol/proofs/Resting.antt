@@ -1,5 +1,6 @@
 -- Trains at rest: what they hold, and how the world stands then.
-use Rattle.std.proofs.Common.{◌≡◌, ℕ, ◌+◌, ◌<◌, ◌≤◌, ◌==◌, Bool, true, false, cond, not, ◌&&◌, length, slice_get, Option, Some, None, refl, ap, ◌∙◌, subst, arith}
+use Rattle.std.proofs.Common.{◌≡◌, ℕ, ◌+◌, ◌<◌, ◌≤◌, ◌==◌, Bool, true, false, cond, not, ◌&&◌, length, slice_get, Option, Some, None, refl, ap, ◌∙◌, subst}
+use Rattle.std.proofs.Common.{arith}
 use Rattle.std.specs.Prelude.{is_some, option_map, option_and_then}
 use Rattle.std.specs.Option.{option_map_or}
 use Rattle.std.proofs.lemmas.Bool.{eq-eqb, and_parts, and_from, both_ways, not-true}
@@ -16,7 +17,7 @@ use Rattle.rl_words.specs.declared.lock.Path.{Path}
 use Rattle.rl_words.specs.declared.mail.MailWord.TheVariants.{Empty}
 use Rattle.rl_words.specs.declared.run.RunWord.TheVariants.{Clear}
 use Rattle.rl_protocol.specs.Line.{Line, is_held_by, is_number, same_number}
-use Rattle.rl_protocol.specs.Jobs.{begins, passes}
+use Rattle.rl_train.specs.Jobs.{is_near, is_pass}
 use Rattle.rl_protocol.specs.State.{State}
 use Rattle.rl_protocol.specs.Minds.{at_rest, row_of}
 use Rattle.rl_protocol.specs.Held.{has_done_for, done_in, held_with, locked_with, job_holds, job_locks}
@@ -29,18 +30,18 @@ use Rattle.rl_protocol.proofs.Passing.{number_is}
 use Rattle.rl_protocol.proofs.Moved.{item_there}
 
 -- a train that rests waits for nothing, and is about to begin
-resting : (line : Line) (s : State) (t : ℕ) → at_rest line t (s.trains t) ≡ true → ((s.trains t).waits ≡ false) × (begins (s.trains t).job ≡ true)
+resting : (line : Line) (s : State) (t : ℕ) → at_rest line t (s.trains t) ≡ true → ((s.trains t).waits ≡ false) × (is_near (s.trains t).job ≡ true)
 resting line s t h = let parts = and_parts _ _ (and_parts _ _ h).0 in (not-true _ parts.0, parts.1)
 
 module _ (line : Line) (tries : ℕ) (s : State) (agrees : Agrees line tries s) (t : ℕ) (rests : at_rest line t (s.trains t) ≡ true) where
   waits_not : (s.trains t).waits ≡ false
   waits_not = (resting line s t rests).0
 
-  may_begin : begins (s.trains t).job ≡ true
+  may_begin : is_near (s.trains t).job ≡ true
   may_begin = (resting line s t rests).1
 
   pub rest_mail : s.mail t ≡ Empty
-  rest_mail = agrees.mailboxes.empty t (ap (λ c. c && not (passes (s.trains t).job)) waits_not)
+  rest_mail = agrees.mailboxes.empty t (ap (λ c. c && not (is_pass (s.trains t).job)) waits_not)
 
   pub rest_holds : (b x : ℕ) → is_held_by t (s.resv b x) ≡ line.ends t (s.trains t).step b x
   rest_holds b x =
@@ -54,7 +55,7 @@ module _ (line : Line) (tries : ℕ) (s : State) (agrees : Agrees line tries s) 
 
   pub rest_run : s.run t ≡ Clear (s.trains t).step
   rest_run =
-      let stands = (agrees.passage t).stands (ap (λ c. c && passes (s.trains t).job) waits_not) in
+      let stands = (agrees.passage t).stands (ap (λ c. c && is_pass (s.trains t).job) waits_not) in
       stands.0 ∙ ap (λ c. Clear (cond c ((s.trains t).step + 1) (s.trains t).step)) (beginning_place (s.trains t).job may_begin)
 
 -- a path of a lock is its own

@@ -98,7 +98,8 @@ followed_more net line tries steps step (Some m) before by = (
   by.world ∙ ap (λ w. after w m) before.world ∙ sym (fold-append after (start net) (moves_of line steps) (m ∷ [])),
 )
 
-pub followed : (net : NetworkPlan) (line : Line) (tries : ℕ) (steps : List Step) → IsRailway net line → IsStepRun line tries steps → IsFollowed net line tries steps
+pub followed : (net : NetworkPlan) (line : Line) (tries : ℕ) (steps : List Step) → IsRailway net line → IsStepRun line tries steps
+    → IsFollowed net line tries steps
 followed net line tries [] is run = record { guarded = tt; world = start_world net line tries is }
 followed net line tries (step ∷ steps) is run =
     let before = followed net line tries steps is run.0 in
@@ -107,7 +108,8 @@ followed net line tries (step ∷ steps) is run =
     record { guarded = more.0; world = more.1 }
 
 -- what a step does where it has a move, and where it has none
-pub step_move : (net : NetworkPlan) (line : Line) (tries : ℕ) (s : State) (step : Step) (m : Move) → IsRailway net line → Agrees line tries s → StepFits line s step
+pub step_move : (net : NetworkPlan) (line : Line) (tries : ℕ) (s : State) (step : Step) (m : Move) → IsRailway net line → Agrees line tries s
+    → StepFits line s step
     → move_of line step ≡ Some m → IsMove net (world_at net s) (world_at net (next line s step)) m
 step_move net line tries s step m is old fits h =
     subst (MovesBy net (world_at net s) (world_at net (next line s step))) h (step_moves net line tries s step is old fits)
@@ -117,5 +119,6 @@ pub step_stays : (net : NetworkPlan) (line : Line) (tries : ℕ) (s : State) (st
 step_stays net line tries s step is old fits h =
     subst (MovesBy net (world_at net s) (world_at net (next line s step))) h (step_moves net line tries s step is old fits)
 
-pub safe : (net : NetworkPlan) (line : Line) (tries : ℕ) (steps : List Step) → IsRailway net line → IsStepRun line tries steps → IsSafeRun net (moves_of line steps)
+pub safe : (net : NetworkPlan) (line : Line) (tries : ℕ) (steps : List Step) → IsRailway net line → IsStepRun line tries steps
+    → IsSafeRun net (moves_of line steps)
 safe net line tries steps is run = safe_run net (moves_of line steps) is.network (followed net line tries steps is run).guarded

@@ -18,14 +18,15 @@ use Rattle.rl_box.specs.declared.mind.Work.{Work}
 use Rattle.rl_box.specs.declared.mind.BoxMind.{BoxMind}
 use Rattle.rl_box.specs.declared.mind.Work.TheVariants.{Ready, Serve, Say}
 use Rattle.rl_track.specs.declared.track.TrackPhase.TheVariants.{Watch, HeadDue, LeaveDue, TailDue}
-use Rattle.rl_train.specs.Steps.{denied}
+use Rattle.rl_train.specs.Steps.{posted, denied}
 use Rattle.rl_box.specs.Mind.{box_at}
 use Rattle.rl_box.specs.Steps.{path_of, other_side}
 use Rattle.rl_track.specs.Track.{track_at}
 use Rattle.rl_protocol.specs.Line.{Line}
-use Rattle.rl_protocol.specs.Jobs.{job_after_no, passes}
+use Rattle.rl_train.specs.Jobs.{after_no, is_pass}
 use Rattle.rl_protocol.specs.State.{State, put, put_at}
-use Rattle.rl_protocol.specs.Minds.{train, letter_of_path, row_of, letter_of, at_rest, posted, heard, passed, names_arms, serving}
+use Rattle.rl_protocol.specs.Minds.{train, letter_of_path, row_of, letter_of, at_rest, heard, passed, names_arms}
+use Rattle.rl_protocol.specs.Minds.{serving}
 
 -- t is a train and b a box by its number, l the letter of train t, u the train in the way, p a path, and k a step of
 -- the route of train t
@@ -62,11 +63,11 @@ StepFits line s (hear_yes t l) =
     ((s.trains t).waits ≡ true) × (letter_of line t (s.trains t) ≡ Some l) × (s.mail t ≡ Yes l)
 StepFits line s (hear_no t l u job) =
     ((s.trains t).waits ≡ true) × (letter_of line t (s.trains t) ≡ Some l) × (s.mail t ≡ No l u)
-    × (job_after_no (row_of line t (s.trains t)) (s.trains t).job ≡ Some job)
+    × (after_no (row_of line t (s.trains t)) (s.trains t).job ≡ Some job)
 StepFits line s (go t) =
-    ((s.trains t).waits ≡ false) × (passes (s.trains t).job ≡ true) × (s.run t ≡ Clear (s.trains t).step)
+    ((s.trains t).waits ≡ false) × (is_pass (s.trains t).job ≡ true) × (s.run t ≡ Clear (s.trains t).step)
 StepFits line s (quiet t) =
-    ((s.trains t).waits ≡ true) × (passes (s.trains t).job ≡ true) × (s.sense t ≡ Tail (s.trains t).step)
+    ((s.trains t).waits ≡ true) × (is_pass (s.trains t).job ≡ true) × (s.sense t ≡ Tail (s.trains t).step)
 StepFits line s (take b t l) =
     ((s.boxes b).work ≡ Ready) × (s.mail t ≡ Ask l) × (l.to.0 ≡ b) × (names_arms line l ≡ true)
 StepFits line s (grant b t l) =

@@ -1,5 +1,6 @@
 -- The world of a state: what the words say of trains, segments and boxes of a network.
-use Rattle.std.specs.Prelude.{◌≡◌, ℕ, ◌+◌, ◌<◌, ◌==◌, Bool, false, ◌&&◌, ◌||◌, if◌then◌else◌, Option, Some, None, unwrap_or}
+use Rattle.std.specs.Prelude.{◌≡◌, ℕ, ◌+◌, ◌<◌, ◌==◌, Bool, false, ◌&&◌, ◌||◌, if◌then◌else◌, Option, Some, None}
+use Rattle.std.specs.Prelude.{unwrap_or}
 use Rattle.std.specs.Option.{option_map_or}
 use Rattle.rl_base.specs.declared.kind.Kind.{Kind}
 use Rattle.rl_base.specs.declared.kind.Kind.TheVariants.{Buffer, Joint, Point, Crossing}
@@ -9,7 +10,8 @@ use Rattle.rl_base.specs.Kind.{joining_side}
 use Rattle.rl_model.specs.declared.moves.Points.{Points}
 use Rattle.rl_model.specs.declared.moves.Points.TheVariants as points
 use Rattle.rl_model.specs.declared.network.NetworkPlan.{NetworkPlan}
-use Rattle.rl_model.specs.Network.{kind_of, start_side, segment_at, arm_of, steps_of, route_segment, route_box, IsStep, IsNetwork}
+use Rattle.rl_model.specs.Network.{kind_of, start_side, segment_at, arm_of, steps_of, route_segment, route_box, IsStep}
+use Rattle.rl_model.specs.Network.{IsNetwork}
 use Rattle.rl_model.specs.World.{World, points_at}
 use Rattle.rl_words.specs.declared.lock.LockWord.{LockWord}
 use Rattle.rl_words.specs.declared.lock.LockWord.TheVariants.{Free, Asked, Moving, Moved, Locked}

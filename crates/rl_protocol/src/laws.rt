@@ -1,4 +1,6 @@
 ghost use Rattle.std.specs.Prelude.{◌≡◌, ℕ, ◌*◌, ◌<◌, ◌≤◌, true, List, length, slice_get, Some, None};
+ghost use Rattle.rl_base.specs.declared.limits.TheConstants.{MAX_ATTEMPT_EVENTS, MAX_ATTEMPT_NODE_EVENTS};
+ghost use Rattle.rl_base.specs.declared.limits.TheConstants.{MAX_ATTEMPT_MOVES};
 ghost use Rattle.rl_base.specs.declared.layout.NodeKind.{NodeKind};
 ghost use Rattle.rl_base.specs.declared.layout.NodeKind.TheVariants as nodes;
 ghost use Rattle.rl_base.specs.declared.layout.WordKind.{WordKind};
@@ -23,7 +25,7 @@ ghost use Rattle.rl_track.specs.declared.track.TrackMind.{TrackMind};
 ghost use Rattle.rl_track.specs.Track.{TrackStep};
 ghost use Rattle.rl_track.specs.declared.machine.MachineMind.{MachineMind};
 ghost use Rattle.rl_track.specs.Machine.{MachineStep};
-ghost use Rattle.rl_protocol.specs.Sentences.{HasWord, with_train, with_track, with_box, Makes, HasLine};
+ghost use Rattle.rl_protocol.specs.Sentences.{StateSays, with_train, with_track, with_box, MakesStep, HasLine};
 ghost use Rattle.rl_protocol.specs.TableLine.{line_of};
 ghost use Rattle.rl_protocol.specs.Line.{Line, IsConsistent};
 ghost use Rattle.rl_protocol.specs.State.{State, start};
@@ -112,13 +114,14 @@ pub fn trains_at_rest()
 pub fn counted_steps()
     ensures steps { (line : Line) (tries trains : ℕ) (steps : List Step)
         → IsConsistent line → HasTrains line trains → IsStepRun line tries steps
-        → length steps ≤ 39 * attempts_posted tries (state_after line tries steps) trains }
+        → length steps ≤ MAX_ATTEMPT_EVENTS * attempts_posted tries (state_after line tries steps) trains }
     ensures node { (line : Line) (tries trains : ℕ) (steps : List Step) (node : NodeKind)
         → IsConsistent line → HasTrains line trains → IsStepRun line tries steps
-        → events_of node steps ≤ 19 * attempts_posted tries (state_after line tries steps) trains }
+        → events_of node steps ≤ MAX_ATTEMPT_NODE_EVENTS * attempts_posted tries (state_after line tries steps) trains }
     ensures moves { (line : Line) (tries trains : ℕ) (steps : List Step)
         → IsConsistent line → HasTrains line trains → IsStepRun line tries steps
-        → length (moves_of line steps) ≤ 10 * attempts_posted tries (state_after line tries steps) trains }
+        → length (moves_of line steps)
+        ≤ MAX_ATTEMPT_MOVES * attempts_posted tries (state_after line tries steps) trains }
     ensures posted { (line : Line) (tries trains : ℕ) (steps : List Step)
         → attempts_posted tries (state_after line tries steps) trains ≤ trains * tries }
 {}
@@ -128,18 +131,18 @@ pub fn counted_steps()
 pub fn sentences_as_steps()
     ensures trains { (tables : Tables) (s : State) (t : ℕ) (table : TrainTable) (w v : Word) (mind : TrainMind)
         → IsLine tables → slice_get tables.trains t ≡ Some table
-        → TrainStep table (s.trains t) w v mind → HasWord s w
-        → Makes (line_of tables) s (nodes.Train (train t)) v (with_train s t mind) }
+        → TrainStep table (s.trains t) w v mind → StateSays s w
+        → MakesStep (line_of tables) s (nodes.Train (train t)) v (with_train s t mind) }
     ensures tracks { (line : Line) (s : State) (t : ℕ) (w v : Word) (mind : TrackMind)
-        → TrackStep (train t) (s.tracks t) w v mind → HasWord s w
-        → Makes line s (nodes.Track (train t)) v (with_track s t mind) }
+        → TrackStep (train t) (s.tracks t) w v mind → StateSays s w
+        → MakesStep line s (nodes.Track (train t)) v (with_track s t mind) }
     ensures boxes { (tables : Tables) (tries : ℕ) (s : State) (b : ℕ) (table : BoxTable) (w v : Word) (mind : BoxMind)
         → IsLine tables → Agrees (line_of tables) tries s → slice_get tables.boxes b ≡ Some table
-        → BoxStep table (s.boxes b) w v mind → HasWord s w
-        → Makes (line_of tables) s (nodes.Box (box b)) v (with_box s b mind) }
+        → BoxStep table (s.boxes b) w v mind → StateSays s w
+        → MakesStep (line_of tables) s (nodes.Box (box b)) v (with_box s b mind) }
     ensures machines { (line : Line) (s : State) (b : ℕ) (before after : MachineMind) (w v : Word)
-        → MachineStep (box b) before w v after → HasWord s w → Makes line s (nodes.Machine (box b)) v s }
+        → MachineStep (box b) before w v after → StateSays s w → MakesStep line s (nodes.Machine (box b)) v s }
     ensures at_work { (tables : Tables) (tries : ℕ) (s : State) (b : ℕ) (table : BoxTable) (w : Word)
         → IsLine tables → Agrees (line_of tables) tries s → slice_get tables.boxes b ≡ Some table
-        → word_at_work b (s.boxes b).work ≡ Some (kind_of w) → HasWord s w → HasLine table (s.boxes b) w }
+        → word_at_work b (s.boxes b).work ≡ Some (kind_of w) → StateSays s w → HasLine table (s.boxes b) w }
 {}

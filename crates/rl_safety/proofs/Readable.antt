@@ -1,8 +1,9 @@
 -- After every run each word can be read.
-use Rattle.std.proofs.Common.{◌≡◌, ◌≢◌, ℕ, ◌≤◌, List, [], ◌∷◌, length, Option, Some, option_map, refl, sym, ap, ◌∙◌, subst, inl, inr, arith}
+use Rattle.std.proofs.Common.{◌≡◌, ◌≢◌, ℕ, List, [], ◌∷◌, length, Option, Some, option_map, refl, sym, ap, ◌∙◌, subst, inl, inr, arith}
 use Rattle.std.specs.Option.{option_map_or}
 use Rattle.std.proofs.lemmas.Bool.{cases_eq}
 use Rattle.std.proofs.lemmas.List.{length-set}
+use Rattle.rl_base.specs.Tries.{AreFewTries}
 use Rattle.rl_base.specs.declared.layout.WordKind.{WordKind}
 use Rattle.rl_base.specs.declared.layout.WordKind.TheVariants as kinds
 use Rattle.rl_base.specs.Layout.{word_count, word_number, HasWord}
@@ -88,7 +89,7 @@ after_readable tables tries c e step before kind there differs =
     ]
 
 pub runs_readable : Laws → ReadsValues → Agreeing → (tables : Tables) (tries : ℕ) (events : List Event) → IsLine tables → IsConsistent (line_of tables)
-    → tries ≤ 1000 → runs.IsRun tables tries events → AreReadable tables (runs.state tables tries events)
+    → AreFewTries tries → runs.IsRun tables tries events → AreReadable tables (runs.state tables tries events)
 runs_readable laws values agreeing tables tries [] line fine few run = start_readable values tables tries line
 runs_readable laws values agreeing tables tries (e ∷ earlier) line fine few run =
     let before = run_stepped laws values agreeing tables tries earlier line fine few run.0 in

@@ -1,5 +1,6 @@
 -- A turn answers Rest exactly for a train at rest.
-use Rattle.std.proofs.Common.{◌≡◌, ◌↔◌, ℕ, ◌<◌, ◌==◌, Bool, true, false, not, ◌&&◌, ◌||◌, length, slice_get, Option, Some, None, option_map, refl, sym, ap, ◌∙◌, if◌then◌else◌, arith}
+use Rattle.std.proofs.Common.{◌≡◌, ◌↔◌, ℕ, ◌<◌, ◌==◌, Bool, true, false, not, ◌&&◌, ◌||◌, length, slice_get, Option, Some, None, option_map, refl, sym, ap, ◌∙◌}
+use Rattle.std.proofs.Common.{if◌then◌else◌, arith}
 use Rattle.std.proofs.lemmas.Bool.Decides.{nat_tests}
 use Rattle.rl_base.specs.declared.layout.Layout.{Layout}
 use Rattle.rl_base.specs.declared.layout.NodeKind.{NodeKind}
@@ -12,7 +13,6 @@ use Rattle.rl_tables.specs.declared.table.Tables.{Tables}
 use Rattle.rl_tables.specs.declared.table.TrainTable.{TrainTable}
 use Rattle.rl_tables.specs.Starts.{layout_of}
 use Rattle.rl_train.specs.declared.mind.TrainMind.{TrainMind}
-use Rattle.rl_train.specs.Jobs.{is_near, is_pass}
 use Rattle.rl_train.specs.Mind.{at_rest}
 use Rattle.rl_train.specs.Steps.{train_target}
 use Rattle.rl_steps.specs.declared.mind.Mind.{Mind}
@@ -25,7 +25,7 @@ use Rattle.rl_steps.specs.Turn.{Drive, answer_at, answer_of_target, target_in}
 use Rattle.rl_steps.proofs.Sounding.{AreMinded}
 use Rattle.rl_steps.proofs.ByKind.{train_target_at, track_target_at, box_target_at, machine_target_at}
 use Rattle.rl_steps.proofs.Numbering.{node_at-some}
-use Rattle.rl_protocol.specs.Jobs.{begins}
+use Rattle.rl_train.specs.Jobs.{is_near, is_pass}
 use Rattle.rl_protocol.specs.Minds.{at_rest as line_at_rest}
 use Rattle.rl_protocol.specs.TableLine.{line_of}
 use Rattle.rl_protocol.proofs.Moved.{item_there}
@@ -40,7 +40,6 @@ swapped false false c = refl
 -- whether a train rests, by its own table
 pub rest_is : (tables : Tables) (t : ℕ) (x : TrainTable) (m : TrainMind) → slice_get tables.trains t ≡ Some x
     → line_at_rest (line_of tables) t m ≡ at_rest x m
-unfolding begins
 rest_is tables t x m there = rw there (swapped (not m.waits) (is_near m.job) (m.step == length x.rows || m.left == 0))
 
 -- a train looks at no word exactly at rest

@@ -19,6 +19,7 @@ use Rattle.rl_tables.specs.declared.table.TrainTable.{TrainTable}
 use Rattle.rl_tables.specs.declared.table.Tables.{Tables}
 use Rattle.rl_tables.specs.Kept.{IsLine}
 use Rattle.rl_tables.specs.Starts.{layout_of, starter_of, arm_holder, start_resv, start_lock, start_payload}
+use Rattle.rl_train.specs.Jobs.{is_near, is_open}
 use Rattle.rl_train.specs.Mind.{IsTrainMind, start_train}
 use Rattle.rl_steps.specs.Numbers.{node_at, word_at}
 use Rattle.rl_steps.specs.State.{start_word, start_mind, start_mind_of}
@@ -72,6 +73,7 @@ pub start_fits : (tables : Tables) (w : ℕ) → IsLine tables → start_word ta
 start_fits tables w line = mapped_fits (start_payload tables) (word_at (layout_of tables) w) (λ kind. payload_fits tables kind line)
 
 start_train-fits : (tries : ℕ) (x : TrainTable) → tries ≤ 1000 → IsTrainMind x (start_train tries)
+unfolding is_near is_open
 start_train-fits tries x few = record { within = omega arith; on_route = λ e. absurd (cc); few = omega arith }
 
 start_mind_at : (tables : Tables) (tries : ℕ) (node : NodeKind) → tries ≤ 1000 → IsMindOf tables node (start_mind_of tries (Some node))

@@ -6,7 +6,7 @@ use Rattle.std.proofs.lemmas.Option.{slice_get_past}
 use Rattle.rl_base.specs.declared.layout.NodeKind.{NodeKind}
 use Rattle.rl_base.specs.declared.layout.NodeKind.TheVariants as nodes
 use Rattle.rl_core.specs.Reports.{AreMindsAfter}
-use Rattle.rl_protocol.specs.Jobs.{begins}
+use Rattle.rl_train.specs.Jobs.{is_near}
 use Rattle.rl_protocol.specs.Minds.{at_rest as line_at_rest}
 use Rattle.rl_protocol.specs.Rest.{AllAtRest}
 use Rattle.rl_protocol.specs.TableLine.{line_of}
@@ -38,7 +38,7 @@ pub record HasRestingTrain (tables : Tables) (c : CoreState) (t : ℕ) : Type 0 
 
 -- what stands for the mind of a train that isn't there is at rest
 rest_past : (tables : Tables) (tries t : ℕ) → length tables.trains ≤ t → line_at_rest (line_of tables) t (start_train tries) ≡ true
-unfolding begins
+unfolding is_near
 rest_past tables tries t past = rw (slice_get_past tables.trains t past) refl
 
 pub all_rest : (tables : Tables) (tries : ℕ) (c : CoreState) → ((t : ℕ) → t < length tables.trains → HasRestingTrain tables c t)

@@ -42,6 +42,7 @@ asked same None l e = absurd (cc)
 asked same (Some a) l e = ap Some (same a l e)
 
 pass_is : (job : Job) → is_pass job ≡ true → job ≡ Pass
+unfolding is_pass
 pass_is Near e = absurd (cc)
 pass_is Far e = absurd (cc)
 pass_is Lock e = absurd (cc)
@@ -160,6 +161,7 @@ module _ (table : TrainTable) (mind : TrainMind) where
   sense_back v r e = rw (itself table.number.0, e) refl
 
   back : ComparesItself → (word next : Word) (after : TrainMind) → TrainStep table mind word next after → train_on table mind word ≡ Some (next, after)
+  unfolding is_pass
   back same _ _ _ (post row l here is waits rests) =
       let off : (mind.waits || at_rest table mind) ≡ false = or_from mind.waits _ waits rests in
       mail_back Empty row (Ask l, posted mind) here (rw (off, is) refl)

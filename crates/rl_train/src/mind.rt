@@ -1,4 +1,5 @@
-ghost use Rattle.std.specs.Prelude.{◌≡◌, ◌≤◌};
+ghost use Rattle.std.specs.Prelude.{◌≡◌};
+ghost use Rattle.rl_base.specs.Tries.{AreFewTries};
 ghost use Rattle.rl_tables.specs.declared.table.TrainTable.{TrainTable};
 ghost use Rattle.rl_train.specs.Mind.{start_train, at_rest, IsTrainMind};
 
@@ -20,9 +21,10 @@ pub struct TrainMind {
 
 impl TrainMind {
     /// At the first step, with so many attempts left.
+    #[tactic(auto, unfolding(crate::specs::Jobs::is_near, crate::specs::Jobs::is_open))]
     pub fn start(tries: u32) -> TrainMind
         ensures mind { result ≡ start_train tries }
-        ensures kept { tries ≤ 1000 → (table : TrainTable) → IsTrainMind table result }
+        ensures kept { AreFewTries tries → (table : TrainTable) → IsTrainMind table result }
     {
         TrainMind {
             step: 0,

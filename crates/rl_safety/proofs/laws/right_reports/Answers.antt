@@ -1,4 +1,5 @@
-use Rattle.std.proofs.Common.{ℕ, ◌≤◌, List, sym, ap, ◌∙◌, subst, arith}
+use Rattle.std.proofs.Common.{ℕ, List, sym, ap, ◌∙◌, subst, arith}
+use Rattle.rl_base.specs.Tries.{AreFewTries}
 use Rattle.rl_model.specs.declared.network.NetworkPlan.{NetworkPlan}
 use Rattle.rl_model.specs.Network.{IsNetwork}
 use Rattle.rl_model.specs.Reports.{Rests}
@@ -13,7 +14,7 @@ use Rattle.rl_safety.proofs.laws.right_reports.Goals as goal
 
 pub returns : goal.returns
 returns c =
-    let accounted : (net : NetworkPlan) (tables : Tables) (tries : ℕ) (events : List Event) → IsNetwork net → AreTablesOf net tables → tries ≤ 1000
+    let accounted : (net : NetworkPlan) (tables : Tables) (tries : ℕ) (events : List Event) → IsNetwork net → AreTablesOf net tables → AreFewTries tries
     → IsRun tables tries events → IsAccounted net tables tries events =
     λ net tables tries events network are few run.
     let line = c.tables_of_networks.ensures.line net tables network are in
