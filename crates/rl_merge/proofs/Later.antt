@@ -1,5 +1,5 @@
 -- Stamps follow cause: a later event of the same node, or on the same word, has a greater stamp.
-use Rattle.std.proofs.Common.{◌≡◌, ℕ, suc, ◌^◌, ◌<◌, ◌≤◌, max, List, ◌∷◌, length, slice_get, slice_set, Some, sym, ap, ◌∙◌, subst, arith}
+use Rattle.std.proofs.Common.{◌≡◌, ℕ, suc, ◌<◌, ◌≤◌, max, List, ◌∷◌, length, slice_get, slice_set, Some, sym, ap, ◌∙◌, subst, arith}
 use Rattle.rl_base.specs.Numbers.{IsU32}
 use Rattle.rl_base.specs.Tries.{AreFewTries}
 use Rattle.rl_base.specs.declared.layout.NodeKind.{NodeKind}

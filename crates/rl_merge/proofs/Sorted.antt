@@ -1,5 +1,5 @@
 -- Every run, sorted by stamps and nodes, is a run that leads to the same state.
-use Rattle.std.proofs.Common.{◌≡◌, ℕ, suc, ◌^◌, ◌<◌, ◌≤◌, ◌==◌, cond, List, [], ◌∷◌, length, refl, sym, ap, ◌∙◌, subst, arith}
+use Rattle.std.proofs.Common.{◌≡◌, ℕ, suc, ◌==◌, cond, List, [], ◌∷◌, length, refl, sym, ap, ◌∙◌, subst, arith}
 use Rattle.rl_base.specs.Numbers.{IsU32}
 use Rattle.rl_base.specs.Tries.{AreFewTries}
 use Rattle.rl_record.specs.declared.event.Event.{Event}

@@ -1,4 +1,4 @@
-ghost use Rattle.std.specs.Prelude.{◌≡◌, ℕ, ◌^◌, ◌<◌, ◌≤◌, List, Some, length, reverse, slice_get};
+ghost use Rattle.std.specs.Prelude.{◌≡◌, ℕ, List, Some, length, reverse, slice_get};
 ghost use Rattle.rl_base.specs.Numbers.{IsU32};
 ghost use Rattle.rl_base.specs.Tries.{AreFewTries};
 ghost use Rattle.rl_record.specs.declared.event.Event.{Event};

@@ -1,6 +1,6 @@
 -- What the nodes of some rails did together, once all of them are parted: one run, and the words and the minds that it
 -- leaves.
-use Rattle.std.specs.Prelude.{◌≡◌, ℕ, ◌*◌, ◌^◌, ◌<◌, ◌≤◌, List, length, map, reverse, All, slice_get, Some}
+use Rattle.std.specs.Prelude.{◌≡◌, ℕ, ◌*◌, ◌≤◌, List, length, map, reverse, All, slice_get, Some}
 use Rattle.rl_base.specs.declared.limits.TheConstants.{MAX_ATTEMPT_EVENTS, MAX_ATTEMPT_NODE_EVENTS}
 use Rattle.rl_base.specs.Numbers.{IsU32}
 use Rattle.rl_record.specs.declared.event.Event.{Event}

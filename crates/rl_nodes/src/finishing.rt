@@ -1,4 +1,4 @@
-ghost use Rattle.std.specs.Prelude.{◌≡◌, ◌∷◌, ◌++◌, List, reverse, map, IfOk, OnOk, All};
+ghost use Rattle.std.specs.Prelude.{◌≡◌, ◌∷◌, ◌++◌, reverse, map, IfOk, OnOk, All};
 ghost use Rattle.rl_record.specs.Records.{IsMergeOf};
 ghost use Rattle.rl_rule.specs.Seats.{rails_id, seat_id, walk_of, handed, taken, IsSameRails};
 ghost use Rattle.rl_rule.specs.Views.{kept_of};

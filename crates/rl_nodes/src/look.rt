@@ -1,9 +1,7 @@
 ghost use Rattle.std.specs.Prelude.{◌≡◌, ◌<◌, length, Some, None};
 ghost use Rattle.rl_base.specs.declared.limits.TheConstants.{MAX_EVENTS};
 ghost use Rattle.rl_base.specs.Layout.{node_count, word_count};
-ghost use Rattle.rl_words.specs.Stamps.{payload_in};
 ghost use Rattle.rl_tables.specs.Starts.{layout_of};
-ghost use Rattle.rl_steps.specs.Step.{node_step};
 ghost use Rattle.rl_steps.specs.Held.{HasMind};
 ghost use Rattle.rl_rule.specs.Seats.{rails_id, rails_line, seat_id, seat_line, walk_of};
 ghost use Rattle.rl_nodes.specs.Looks.{IsLook};

@@ -24,7 +24,8 @@ use Rattle.rl_rule.specs.declared.views.Role.TheVariants.{Root, Node, Spent}
 use Rattle.rl_rule.specs.Views.{kept_of, root_view, grown, begun, taking, spent}
 use Rattle.rl_rule.specs.Ruled.{Places, times, times_taken, KnowsRoot, KnowsNode, Knows, IsNodeAt, IsRuled}
 use Rattle.rl_rule.proofs.Lists.{at_end, at_within, same_at}
-use Rattle.rl_rule.proofs.Others.{put_same, put_other, as_role, from_role, as_view, IsUnborn, unborn_is, live_not_taken}
+use Rattle.rl_merge.proofs.Exchange.{put_same, put_other}
+use Rattle.rl_rule.proofs.Others.{as_role, from_role, as_view, IsUnborn, unborn_is, live_not_taken}
 
 -- the start
 abbrev no_places : Places

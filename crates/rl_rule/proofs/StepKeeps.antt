@@ -29,7 +29,8 @@ use Rattle.rl_rule.specs.Plays.{Sat, IsStep, steps}
 use Rattle.rl_rule.specs.Ruled.{IsWalk, Places, KnowsNode, IsRuled}
 use Rattle.rl_rule.proofs.Known.{Laws}
 use Rattle.rl_rule.proofs.Histories.{history_own, history_other}
-use Rattle.rl_rule.proofs.Others.{put_same, few_in_log, as_role, from_role, as_view, root_kept, node_kept, other_knows}
+use Rattle.rl_merge.proofs.Exchange.{put_same}
+use Rattle.rl_rule.proofs.Others.{few_in_log, as_role, from_role, as_view, root_kept, node_kept, other_knows}
 
 -- the step fits the state
 fits_state : (tables : Tables) (c : CoreState) (n w was payload clock : ℕ) (mind : Mind) → slice_get c.words w ≡ Some was →

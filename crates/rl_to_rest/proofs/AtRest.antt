@@ -1,9 +1,8 @@
 -- Where the mind of each train's node rests, every train rests.
-use Rattle.std.proofs.Common.{◌≡◌, ℕ, ◌<◌, ◌≤◌, nat_lt, Bool, true, false, if◌then◌else◌, List}
-use Rattle.std.proofs.Common.{[], length, slice_get, Some, None, refl, sym, ap, ◌∙◌, subst, arith}
+use Rattle.std.proofs.Common.{◌≡◌, ℕ, ◌<◌, ◌≤◌, nat_lt, Bool, true, false, if◌then◌else◌}
+use Rattle.std.proofs.Common.{[], length, slice_get, Some, refl, sym, ap, ◌∙◌, subst, arith}
 use Rattle.std.proofs.lemmas.Bool.Decides.{nat_tests}
 use Rattle.std.proofs.lemmas.Option.{slice_get_past}
-use Rattle.rl_base.specs.declared.layout.NodeKind.{NodeKind}
 use Rattle.rl_base.specs.declared.layout.NodeKind.TheVariants as nodes
 use Rattle.rl_core.specs.Reports.{AreMindsAfter}
 use Rattle.rl_train.specs.Jobs.{is_near}
@@ -11,12 +10,10 @@ use Rattle.rl_protocol.specs.Minds.{at_rest as line_at_rest}
 use Rattle.rl_protocol.specs.Rest.{AllAtRest}
 use Rattle.rl_protocol.specs.TableLine.{line_of}
 use Rattle.rl_protocol.proofs.Moved.{item_there}
-use Rattle.rl_record.specs.declared.event.Event.{Event}
 use Rattle.rl_steps.specs.declared.mind.Mind.{Mind}
-use Rattle.rl_steps.specs.declared.mind.Mind.TheVariants.{Train, Track, Box, Machine}
-use Rattle.rl_steps.specs.Numbers.{node_at, train}
-use Rattle.rl_steps.specs.Run.{IsRun, state}
-use Rattle.rl_steps.specs.Sound.{IsMindOf}
+use Rattle.rl_steps.specs.declared.mind.Mind.TheVariants.{Train}
+use Rattle.rl_steps.specs.Numbers.{train}
+use Rattle.rl_steps.specs.Run.{state}
 use Rattle.rl_steps.specs.State.{CoreState, start, start_mind_of}
 use Rattle.rl_steps.proofs.Numbering.{node_at-number}
 use Rattle.rl_safety.specs.Reading.{read, train_mind}

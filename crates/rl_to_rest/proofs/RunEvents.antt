@@ -1,17 +1,14 @@
 -- The events of a run: how many there are, on which words they are, and which moves they have.
-use Rattle.std.proofs.Common.{◌≡◌, ℕ, zero, suc, ◌+◌, ◌*◌, ◌^◌, ◌<◌, ◌≤◌, List, [], ◌∷◌}
-use Rattle.std.proofs.Common.{◌++◌, length, slice_get, Option, Some, None, refl, sym, ap, ◌∙◌, subst, arith}
-use Rattle.std.specs.Prelude.{All, reverse, take, option_map, option_to_list, slice_index_or}
+use Rattle.std.proofs.Common.{ℕ, zero, suc, ◌+◌, ◌*◌, ◌<◌, ◌≤◌, List, [], ◌∷◌}
+use Rattle.std.proofs.Common.{◌++◌, length, slice_get, sym, subst, arith}
+use Rattle.std.specs.Prelude.{All, reverse, option_map, slice_index_or}
 use Rattle.std.proofs.lemmas.List.{reverse-append, reverse-reverse, length-reverse}
 use Rattle.std.proofs.lemmas.Nat.{mul-le}
 use Rattle.std.proofs.lemmas.Option.{slice_get_within}
-use Rattle.rl_base.specs.declared.limits.TheConstants.{MAX_TRAINS, MAX_TRIES, MAX_ATTEMPT_EVENTS, MAX_ATTEMPT_MOVES}
+use Rattle.rl_base.specs.declared.limits.TheConstants.{MAX_TRAINS, MAX_TRIES, MAX_ATTEMPT_EVENTS}
 use Rattle.rl_base.specs.Numbers.{IsU32}
 use Rattle.rl_base.specs.Tries.{AreFewTries}
 use Rattle.rl_base.specs.Layout.{word_count}
-use Rattle.rl_core.specs.Replays.{before}
-use Rattle.rl_core.proofs.Replaying.{before_more}
-use Rattle.rl_model.specs.declared.moves.Move.{Move}
 use Rattle.rl_record.specs.declared.event.Event.{Event}
 use Rattle.rl_steps.specs.Run.{IsRun, state}
 use Rattle.rl_steps.specs.Sound.{IsSound}
@@ -19,7 +16,6 @@ use Rattle.rl_steps.specs.Step.{node_step}
 use Rattle.rl_steps.specs.State.{event_at, next_stamp}
 use Rattle.rl_steps.proofs.Options.{from_then}
 use Rattle.rl_safety.specs.Counts.{attempts_of}
-use Rattle.rl_safety.specs.Moves.{move_of, moves_of}
 use Rattle.rl_tables.specs.declared.table.Tables.{Tables}
 use Rattle.rl_tables.specs.Kept.{IsLine}
 use Rattle.rl_tables.specs.Starts.{layout_of}
@@ -78,13 +74,8 @@ on_the_line tables tries events sound line few short run = λ k d lt.
 most_attempts : (tables : Tables) (tries : ℕ) → IsLine tables → AreFewTries tries → length tables.trains * tries ≤ MAX_TRAINS * MAX_TRIES
 most_attempts tables tries line few = mul-le (length tables.trains) tries MAX_TRAINS MAX_TRIES line.few_trains few
 
--- a run has few events, and few moves
+-- a run has few events
 pub few_events : (tables : Tables) (tries : ℕ) (events : List Event) → IsLine tables → AreFewTries tries
     → attempts_of tables tries events ≤ length tables.trains * tries → length events ≤ MAX_ATTEMPT_EVENTS * attempts_of tables tries events
     → IsU32 (length events)
 few_events tables tries events line few posted made = omega (arith, most_attempts tables tries line few)
-
-pub few_moves : (tables : Tables) (tries : ℕ) (events : List Event) → IsLine tables → AreFewTries tries
-    → attempts_of tables tries events ≤ length tables.trains * tries → length (moves_of tables events) ≤ MAX_ATTEMPT_MOVES * attempts_of tables tries events
-    → IsU32 (length (moves_of tables events))
-few_moves tables tries events line few posted made = omega (arith, most_attempts tables tries line few)

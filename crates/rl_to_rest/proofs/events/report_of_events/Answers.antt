@@ -1,7 +1,7 @@
-use Rattle.std.proofs.Common.{◌<◌, ◌^◌, length, reverse, subst}
+use Rattle.std.proofs.Common.{length, reverse}
 use Rattle.std.proofs.lemmas.List.{length-reverse}
 use Rattle.rl_base.specs.Numbers.{IsU32}
-use Rattle.rl_to_rest.proofs.RunEvents.{few_events, few_moves, on_the_line}
+use Rattle.rl_to_rest.proofs.RunEvents.{few_events, on_the_line}
 use Rattle.rl_to_rest.proofs.events.report_of_events.Goals as goal
 
 pub moves_of-requires : goal.moves_of-requires

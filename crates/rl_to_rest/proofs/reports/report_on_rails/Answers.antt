@@ -1,7 +1,6 @@
-use Rattle.std.proofs.Common.{◌≡◌, ◌≤◌, ℕ, List, IfOk, sym, ◌∙◌, subst}
+use Rattle.std.proofs.Common.{◌≡◌, ℕ, List, IfOk, sym, ◌∙◌, subst}
 use Rattle.std.specs.Prelude.{reverse}
 use Rattle.rl_base.specs.Tries.{AreFewTries}
-use Rattle.rl_model.specs.declared.report.Report.{Report}
 use Rattle.rl_record.specs.declared.event.Event.{Event}
 use Rattle.rl_rule.specs.Seats.{rails_line, rails_tries}
 use Rattle.rl_safety.specs.Reports.{report_of}
