@@ -101,7 +101,8 @@ pub fn check(alloc: Global, draft: Draft) -> Result<Network, NetRefusal>
     // A draft that breaks no rule is refused for want of memory alone.
     ensures only_memory { IsAccepted draft → IfErr result (λ e. e ≡ NoMemory) }
     // No other answer is right.
-    ensures exact { (other : Result NetworkPlan NetRefusal) → IsRight draft other → UnlessMemory result (result ≡ other) }
+    ensures exact { (other : Result NetworkPlan NetRefusal) → IsRight draft other
+        → UnlessMemory result (result ≡ other) }
 {
     first_refusals();
     searched(alloc, &draft)

@@ -14,7 +14,8 @@ use Rattle.toml.specs.Data.{Data, string, integer, array, table, Items, no_items
 abbrev pub with_key : List ℕ → Data → Members → Members
 with_key key d no_members = member key d no_members
 with_key key d (member k e ms) =
-    match_ordering (slice_cmp nat_cmp key k) (member key d (member k e ms)) (member k d ms) (member k e (with_key key d ms))
+    match_ordering (slice_cmp nat_cmp key k) (member key d (member k e ms)) (member k d ms)
+    (member k e (with_key key d ms))
 
 -- the table with the side, where there is one
 abbrev pub with_side : Option Side → Members → Members
