@@ -2,10 +2,11 @@
 use Rattle.std.proofs.Common.{◌≡◌, ◌∙◌, ◌*◌, ◌<◌, ◌≤◌, arith, ℕ, List, [], ◌∷◌, Option, Some, None, IfSome, IsSome, Result, Ok, Err, Contains, refl, sym, ap, subst}
 use Rattle.rl_base.specs.declared.limits.TheConstants.{MAX_TURNS}
 use Rattle.rl_base.specs.declared.place.Place.{Place}
-use Rattle.rl_base.specs.declared.place.Place.TheVariants.{ReportLine}
 use Rattle.rl_model.specs.declared.network.NetworkPlan.{NetworkPlan}
 use Rattle.rl_model.specs.Network.{IsNetwork}
 use Rattle.rl_report.specs.Grammar.{IsLong}
+use Rattle.rl_report.specs.Refusals as reports
+use Rattle.rl_report.specs.declared.refusal.ReportRefusal.TheVariants.{Line}
 use Rattle.rl_report.proofs.OneReading.{one_report, no_fault, one_fault}
 use Rattle.rl_audit.specs.declared.verdict.Verdict.{Verdict}
 use Rattle.rl_audit.specs.declared.verdict.Verdict.TheVariants.{Safe, Bad}
@@ -46,7 +47,7 @@ no_verdict net bytes v n p one short (long is) = short is
 same_refusal : (net : NetworkPlan) (bytes : List ℕ) (n m : ℕ) (p q : Place) → IsReportRefusal net bytes n p → IsReportRefusal net bytes m q →
     status.Refused n p ≡ status.Refused m q
 same_refusal net bytes n m p q (faulty k short fault) (faulty l fits other) =
-    ap (λ (x : ℕ). status.Refused 19 (ReportLine x)) (one_fault net bytes k l fault other)
+    ap (λ (x : ℕ). status.Refused (reports.refusal_number (Line x)) (reports.refusal_place (Line x))) (one_fault net bytes k l fault other)
 same_refusal net bytes n m p q (faulty k short fault) (long is) = absurd (short is)
 same_refusal net bytes n m p q (long is) (faulty l short other) = absurd (short is)
 same_refusal net bytes n m p q (long is) (long same) = refl

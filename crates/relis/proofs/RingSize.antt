@@ -1,13 +1,14 @@
 -- How many nodes the network of a ring has, and that the rounds that are driven on it have not too many turns.
 use Rattle.std.proofs.Common.{◌≡◌, ◌*◌, ◌+◌, ◌<◌, ◌≤◌, ◌++◌, ℕ, zero, suc, List, [], ◌∷◌, length, refl, subst, sym, arith, map, length-append, ◌∙◌}
 use Rattle.std.proofs.lemmas.List.{length-map}
-use Rattle.rl_base.specs.declared.limits.TheConstants.{MAX_TURNS}
+use Rattle.rl_base.specs.declared.limits.TheConstants.{MAX_MAKE, MAX_TURNS}
 use Rattle.rl_base.specs.declared.draft.DraftBox.{DraftBox}
 use Rattle.rl_base.specs.declared.draft.DraftTrain.{DraftTrain}
 use Rattle.rl_model.specs.declared.network.NetworkPlan.{NetworkPlan}
 use Rattle.rl_drafts.specs.Drafts.{network_of, box_of, train_of as network_train}
 use Rattle.rl_make.specs.Ring.{ring, each, boxes_of, train_of}
 use Rattle.rl_schedule.specs.Readings.{nodes_of}
+use Rattle.relis.specs.declared.made.TheConstants.{MADE_ROUNDS}
 
 boxes_count : (n k : ℕ) → length (each (boxes_of n) k) ≡ 3 * k
 boxes_count n zero = refl
@@ -32,8 +33,8 @@ ring_nodes n =
     let trains : length (network_of (ring n)).trains ≡ n = length-map (each (trains_of n) n) (network_train (ring n)) ∙ trains_count n n in
     omega arith
 
--- of at most 32 stations
-pub ring_fits : (n : ℕ) (net : NetworkPlan) → net ≡ network_of (ring n) → n ≤ 32 → MAX_TURNS < 3900 * nodes_of net → ⊥
+-- of as many stations as may be asked for
+pub ring_fits : (n : ℕ) (net : NetworkPlan) → net ≡ network_of (ring n) → n ≤ MAX_MAKE → MAX_TURNS < MADE_ROUNDS * nodes_of net → ⊥
 ring_fits n net is few many =
     let nodes : nodes_of net ≡ 8 * n = subst (λ (x : NetworkPlan). nodes_of x ≡ 8 * n) (sym is) (ring_nodes n) in
     omega arith

@@ -2,13 +2,12 @@
 use Rattle.std.proofs.Common.{◌≡◌, ◌<◌, ℕ, List, [], length, Bool, true, cond, Result, Ok, Err, refl, sym, ap, nat_lt, arith, ◌∙◌}
 use Rattle.std.proofs.lemmas.Bool.Decides.{nat_tests}
 use Rattle.rl_base.specs.declared.limits.TheConstants.{MAX_SCHEDULE_BYTES}
-use Rattle.rl_base.specs.declared.place.Place.TheVariants.{ScheduleLine}
 use Rattle.rl_model.specs.declared.network.NetworkPlan.{NetworkPlan}
 use Rattle.rl_schedule.specs.declared.refusal.ScheduleRefusal.{ScheduleRefusal}
 use Rattle.rl_schedule.specs.declared.refusal.ScheduleRefusal.TheVariants as refusals
 use Rattle.rl_schedule.specs.declared.schedules.Item.{Item}
 use Rattle.rl_schedule.specs.Readings.{schedule_of, items_after}
-use Rattle.rl_schedule.specs.Refusals.{UnlessMemory}
+use Rattle.rl_schedule.specs.Refusals.{UnlessMemory, refusal_number, refusal_place}
 use Rattle.rl_text.specs.Lines.{lines_of}
 use Rattle.relis.specs.Commands.{MayRefuse, DrivesScheduleTo}
 use Rattle.relis.specs.declared.status.Status.TheVariants as status
@@ -27,6 +26,6 @@ long_schedule net text long =
 
 -- a text that is too long is refused
 pub too_many : (net : NetworkPlan) (text : List ℕ) (tries : ℕ) → MAX_SCHEDULE_BYTES < length text →
-    DrivesScheduleTo net text tries (Err (status.Refused 18 (ScheduleLine 0)))
+    DrivesScheduleTo net text tries (Err (status.Refused (refusal_number (refusals.TooMany 0)) (refusal_place (refusals.TooMany 0))))
 too_many net text tries long =
     (refusals.TooMany 0, long_schedule net text long, refl, refl)

@@ -3,7 +3,6 @@ use Rattle.std.specs.Prelude.{◌≡◌, ℕ, ◌*◌, ◌<◌, ◌≤◌, List,
 use Rattle.std.specs.List.{repeat, range_with_len}
 use Rattle.rl_base.specs.declared.limits.TheConstants.{DEFAULT_TRIES, MAX_TURNS}
 use Rattle.rl_base.specs.declared.place.Place.{Place}
-use Rattle.rl_base.specs.declared.place.Place.TheVariants.{ScheduleLine, ReportLine}
 use Rattle.rl_model.specs.declared.network.NetworkPlan.{NetworkPlan}
 use Rattle.rl_model.specs.declared.report.Report.{Report}
 use Rattle.rl_model.specs.Reports.{IsReportOf, IsRightReport}
@@ -20,6 +19,8 @@ use Rattle.rl_tables.specs.declared.table.Tables.{Tables}
 use Rattle.rl_tables.specs.Tables.{AreTablesOf}
 use Rattle.rl_tables.specs.TablesText.{tables_text}
 use Rattle.rl_report.specs.Grammar.{IsFirstFault, IsLong}
+use Rattle.rl_report.specs.Refusals as reports
+use Rattle.rl_report.specs.declared.refusal.ReportRefusal.TheVariants.{Line, Long}
 use Rattle.rl_audit.specs.declared.verdict.Verdict.TheVariants.{Safe, Bad}
 use Rattle.rl_audit.specs.Verdicts.{IsVerdictOn}
 use Rattle.rl_make.specs.Ring.{ring}
@@ -76,7 +77,8 @@ abbrev pub DrivesRoundsTo : NetworkPlan → (rounds tries : ℕ) → End → Typ
 DrivesRoundsTo net rounds tries (Ok text) =
     (rounds * nodes_of net ≤ MAX_TURNS) × IsDriveText net tries (nodes_in_rounds net rounds) text
 DrivesRoundsTo net rounds tries (Err (status.Refused number place)) =
-    (MAX_TURNS < rounds * nodes_of net) × (number ≡ 18) × (place ≡ ScheduleLine 1)
+    (MAX_TURNS < rounds * nodes_of net) × (number ≡ refusal_number (refusals.TooMany 1))
+    × (place ≡ refusal_place (refusals.TooMany 1))
 DrivesRoundsTo net rounds tries (Err answer) = ⊥
 
 -- the refusal is that of the text; want of memory says nothing of it
@@ -101,8 +103,9 @@ RunsTo net tries (Err answer) = ⊥
 
 -- the number and the place are those of the refusal of a report
 pub data IsReportRefusal (net : NetworkPlan) (report : List ℕ) : ℕ → Place → Type 0 where
-  faulty : (n : ℕ) → (IsLong net report → ⊥) → IsFirstFault net report n → IsReportRefusal net report 19 (ReportLine n)
-  long : IsLong net report → IsReportRefusal net report 20 (ReportLine 0)
+  faulty : (n : ℕ) → (IsLong net report → ⊥) → IsFirstFault net report n →
+      IsReportRefusal net report (reports.refusal_number (Line n)) (reports.refusal_place (Line n))
+  long : IsLong net report → IsReportRefusal net report (reports.refusal_number Long) (reports.refusal_place Long)
 
 -- `audit` says how many moves a right report has, or the first line and the first guard of it that fail
 abbrev pub AuditsTo : NetworkPlan → List ℕ → End → Type 0

@@ -21,6 +21,11 @@ place_text place.Top = codes "top"
 place_text place.Format = codes "format"
 place_text place.Segments = codes "segments"
 place_text (place.Segment i) = item_text (codes "segments") i []
+place_text place.Segs = codes "segment"
+place_text (place.SegItem i) = item_text (codes "segment") i []
+place_text (place.SegName i) = item_text (codes "segment") i (codes ".name")
+place_text (place.SegEnds i) = item_text (codes "segment") i (codes ".ends")
+place_text (place.SegEnd i j) = nested_text (codes "segment") i (codes ".ends") j
 place_text place.Boxes = codes "box"
 place_text (place.BoxItem i) = item_text (codes "box") i []
 place_text (place.BoxName i) = item_text (codes "box") i (codes ".name")
@@ -35,6 +40,8 @@ place_text (place.TrainRoute i) = item_text (codes "train") i (codes ".route")
 place_text (place.RouteItem i j) = nested_text (codes "train") i (codes ".route") j
 place_text (place.ScheduleLine n) = codes "schedule:" ++ decimal n
 place_text (place.ReportLine n) = codes "report:" ++ decimal n
+place_text (place.FateLine n) = codes "fates:" ++ decimal n
+place_text (place.Word n) = codes "word:" ++ decimal n
 
 abbrev pub usage_line : List ℕ
 usage_line = codes "usage: relis COMMAND WORDS\n"

@@ -1,16 +1,17 @@
-ghost use Rattle.std.specs.Prelude.{[], ◌∷◌, ℕ, List, Err};
+ghost use Rattle.std.specs.Prelude.{◌≡◌, [], ◌∷◌, ℕ, List, Err};
 ghost use Rattle.rl_cli.specs.declared.order.Order.{Order};
 ghost use Rattle.rl_model.specs.declared.network.NetworkPlan.{NetworkPlan};
 ghost use Rattle.rl_report.specs.Answers.{IsCause};
+ghost use Rattle.rl_report.specs.Refusals.{refusal_number, refusal_place};
 ghost use Rattle.relis.specs.Answers.{EndsAs, UnlessMemory};
 ghost use Rattle.relis.specs.Reading.{FetchesOf};
 ghost use Rattle.relis.specs.Commands.{AuditsTo};
 
+use crate::judge::refused;
 use crate::lines::safe;
 use crate::reading::{TooLong, read_file, read_network};
 use crate::status::Status;
 use rl_audit::{ReportRefusal, Verdict};
-use rl_base::Place;
 use rl_base::limits::MAX_REPORT_BYTES;
 use rl_net::Network;
 use rl_outside::Files;
@@ -18,10 +19,15 @@ use rl_text::Out;
 use std::alloc::Global;
 
 /// What a report is called that is too long.
-const LONG_REPORT: TooLong = TooLong {
-    number: 20,
-    place: Place::ReportLine(0),
-};
+fn long_report() -> TooLong
+    ensures number { result.number ≡ refusal_number ReportRefusal.Long }
+    ensures place { result.place ≡ refusal_place ReportRefusal.Long }
+{
+    TooLong {
+        number: ReportRefusal::Long.number(),
+        place: ReportRefusal::Long.place(),
+    }
+}
 
 /// The status of a report that is refused.
 fn refusal_of(refusal: ReportRefusal) -> Status
@@ -29,15 +35,8 @@ fn refusal_of(refusal: ReportRefusal) -> Status
         → UnlessMemory (AuditsTo net report) (Err result) }
 {
     match refusal {
-        ReportRefusal::Line(n) => Status::Refused {
-            number: 19,
-            place: Place::ReportLine(n),
-        },
-        ReportRefusal::Long => Status::Refused {
-            number: LONG_REPORT.number,
-            place: LONG_REPORT.place,
-        },
         ReportRefusal::NoMemory => Status::NoMemory,
+        _ => refused(refusal.number(), refusal.place()),
     }
 }
 
@@ -60,6 +59,6 @@ pub fn audit<F: Files>(alloc: Global, files: &mut F, net: &str, report: &str) ->
         (F.held files.old) (F.held files.new) (F.faults files.old) (F.faults files.new) }
 {
     let net = read_network(alloc, files, net)?;
-    let report = read_file(alloc, files, report, MAX_REPORT_BYTES, LONG_REPORT)?;
+    let report = read_file(alloc, files, report, MAX_REPORT_BYTES, long_report())?;
     audit_on(alloc, &net, report.as_slice())
 }

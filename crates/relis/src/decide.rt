@@ -9,7 +9,7 @@ ghost use Rattle.relis.specs.Orders.{plain, plain_order_of};
 use crate::audit::audit;
 use crate::check::{check, tables};
 use crate::drive::{drive_rounds, drive_schedule};
-use crate::lines::line_of;
+use crate::lines::status_line;
 use crate::made::make;
 use crate::run::{RunOptions, run};
 use crate::status::Status;
@@ -133,7 +133,7 @@ pub fn decide(alloc: Global, outcome: Result<Out, Status>) -> Result<Decision, N
         Err(Status::NoMemory) => Err(NoMemory),
         Err(status) => Ok(Decision {
             status,
-            text: line_of(alloc, status)?,
+            text: status_line(alloc, status)?,
         }),
     }
 }

@@ -1,8 +1,11 @@
 ghost use Rattle.std.specs.Prelude.{[], ◌∷◌, ◌≡◌, ◌≤◌, ℕ, List, IfOk, Err};
+ghost use Rattle.rl_base.specs.Tries.{AreFewTries};
+ghost use Rattle.rl_base.specs.declared.limits.TheConstants.{MIN_TRIES};
 ghost use Rattle.rl_cli.specs.declared.order.Order.{Order};
 ghost use Rattle.rl_cli.specs.Limits.{IsWithinLimits};
 ghost use Rattle.rl_model.specs.declared.network.NetworkPlan.{NetworkPlan};
 ghost use Rattle.rl_schedule.specs.Readings.{nodes_of};
+ghost use Rattle.rl_schedule.specs.Refusals.{refusal_number, refusal_place};
 ghost use Rattle.rl_schedule.specs.Turns.{IsScheduleFor, turns_of};
 ghost use Rattle.relis.specs.Answers.{EndsAs, UnlessMemory};
 ghost use Rattle.relis.specs.Reading.{FetchesOf};
@@ -10,8 +13,8 @@ ghost use Rattle.relis.specs.Commands.{IsDrivenReport, IsDriveText, MayRefuse, D
 
 use crate::reading::{TooLong, read_file, read_network};
 use crate::status::Status;
+use rl_base::NoMemory;
 use rl_base::limits::MAX_SCHEDULE_BYTES;
-use rl_base::{NoMemory, Place};
 use rl_model::Report;
 use rl_net::Network;
 use rl_outside::Files;
@@ -22,10 +25,16 @@ use rl_text::Out;
 use std::alloc::Global;
 
 /// What a schedule is called that is too long.
-const LONG_SCHEDULE: TooLong = TooLong {
-    number: 18,
-    place: Place::ScheduleLine(0),
-};
+fn long_schedule() -> TooLong
+    ensures number { result.number ≡ refusal_number (ScheduleRefusal.TooMany 0) }
+    ensures place { result.place ≡ refusal_place (ScheduleRefusal.TooMany 0) }
+{
+    let refusal = ScheduleRefusal::TooMany(0);
+    TooLong {
+        number: refusal.number(),
+        place: refusal.place(),
+    }
+}
 
 /// The report of the turns of a schedule.
 pub fn driven(
@@ -34,8 +43,8 @@ pub fn driven(
     tries: u32,
     schedule: &Schedule,
 ) -> Result<Report, NoMemory>
-    requires some_tries { 1 ≤ tries }
-    requires few_tries { tries ≤ 1000 }
+    requires some_tries { MIN_TRIES ≤ tries }
+    requires few_tries { AreFewTries tries }
     requires fits { IsScheduleFor (nodes_of net.now) schedule.now }
     ensures { IfOk result (IsDrivenReport net.now tries (turns_of (nodes_of net.now) schedule.now)) }
 {
@@ -51,8 +60,8 @@ fn text_of_turns(
     tries: u32,
     schedule: &Schedule,
 ) -> Result<Out, NoMemory>
-    requires some_tries { 1 ≤ tries }
-    requires few_tries { tries ≤ 1000 }
+    requires some_tries { MIN_TRIES ≤ tries }
+    requires few_tries { AreFewTries tries }
     requires fits { IsScheduleFor (nodes_of net.now) schedule.now }
     ensures { IfOk result (IsDriveText net.now tries (turns_of (nodes_of net.now) schedule.now)) }
 {
@@ -61,16 +70,19 @@ fn text_of_turns(
 }
 
 fn rounds_on(alloc: Global, net: &Network, rounds: u32, tries: u32) -> Result<Out, Status>
-    requires some_tries { 1 ≤ tries }
-    requires few_tries { tries ≤ 1000 }
+    requires some_tries { MIN_TRIES ≤ tries }
+    requires few_tries { AreFewTries tries }
     ensures { UnlessMemory (DrivesRoundsTo net.now rounds tries) result }
 {
     match Schedule::rounds(net, rounds) {
         Some(schedule) => Ok(text_of_turns(alloc, net, tries, &schedule)?),
-        None => Err(Status::Refused {
-            number: LONG_SCHEDULE.number,
-            place: Place::ScheduleLine(1),
-        }),
+        None => {
+            let refusal = ScheduleRefusal::TooMany(1);
+            Err(Status::Refused {
+                number: refusal.number(),
+                place: refusal.place(),
+            })
+        }
     }
 }
 
@@ -108,8 +120,8 @@ fn refusal_of(refusal: ScheduleRefusal) -> Status
 }
 
 fn schedule_on(alloc: Global, net: &Network, schedule: &[u8], tries: u32) -> Result<Out, Status>
-    requires some_tries { 1 ≤ tries }
-    requires few_tries { tries ≤ 1000 }
+    requires some_tries { MIN_TRIES ≤ tries }
+    requires few_tries { AreFewTries tries }
     ensures { UnlessMemory (DrivesScheduleTo net.now schedule.now tries) result }
 {
     match read_schedule(alloc, net, schedule) {
@@ -133,6 +145,6 @@ pub fn drive_schedule<F: Files>(
         (F.held files.old) (F.held files.new) (F.faults files.old) (F.faults files.new) }
 {
     let net = read_network(alloc, files, net)?;
-    let schedule = read_file(alloc, files, schedule, MAX_SCHEDULE_BYTES, LONG_SCHEDULE)?;
+    let schedule = read_file(alloc, files, schedule, MAX_SCHEDULE_BYTES, long_schedule())?;
     schedule_on(alloc, &net, schedule.as_slice(), tries)
 }

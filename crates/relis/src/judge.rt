@@ -1,6 +1,5 @@
 ghost use Rattle.std.specs.Prelude.{◌≡◌, ℕ, List, IfOk, IfErr, Ok, Err};
 ghost use Rattle.rl_base.specs.declared.draft.Draft.{Draft};
-ghost use Rattle.rl_drafts.specs.Search.{first_refusal};
 ghost use Rattle.rl_net.specs.NetRefusals.{IsRefusal};
 ghost use Rattle.rl_syntax.specs.Answer.{UnlessMemory};
 ghost use Rattle.rl_syntax.specs.Meaning.{Means};
@@ -8,12 +7,12 @@ ghost use Rattle.relis.specs.Networks.{IsAcceptedAs, IsRefusalOf};
 
 use crate::status::Status;
 use rl_base::Place;
-use rl_drafts::first_refusals;
 use rl_net::{NetRefusal, Network, check};
 use rl_syntax::{SyntaxRefusal, read_draft};
 use std::alloc::Global;
 
-fn refused(number: u32, place: Place) -> Status
+/// The status of a text that is refused.
+pub fn refused(number: u32, place: Place) -> Status
     ensures { result ≡ Status.Refused number place }
 {
     Status::Refused { number, place }
@@ -31,8 +30,7 @@ fn of_syntax(refusal: SyntaxRefusal) -> Status
 
 /// The status of a refusal of the draft.
 fn of_network(refusal: &NetRefusal) -> Status
-    ensures { (text : List ℕ) (d : Draft) → Means text (Ok d) → IsRefusal refusal.now (first_refusal d) →
-        IsRefusalOf text result }
+    ensures { (text : List ℕ) (d : Draft) → Means text (Ok d) → IsRefusal d refusal.now → IsRefusalOf text result }
 {
     match refusal {
         NetRefusal::NoMemory => Status::NoMemory,
@@ -45,7 +43,6 @@ pub fn judge(alloc: Global, text: &[u8]) -> Result<Network, Status>
     ensures accepted { IfOk result (IsAcceptedAs text.now) }
     ensures refused { IfErr result (IsRefusalOf text.now) }
 {
-    first_refusals();
     let draft = match read_draft(alloc, text) {
         Ok(draft) => draft,
         Err(refusal) => return Err(of_syntax(refusal)),

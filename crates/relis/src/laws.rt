@@ -1,4 +1,5 @@
 ghost use Rattle.std.specs.Prelude.{◌≡◌, ◌+◌, ◌≤◌, ◌⊎◌, ℕ, List, length, slice_get, Some, Ok};
+ghost use Rattle.rl_base.specs.Tries.{AreFewTries};
 ghost use Rattle.rl_base.specs.declared.limits.TheConstants.{MAX_MOVES};
 ghost use Rattle.rl_model.specs.declared.network.NetworkPlan.{NetworkPlan};
 ghost use Rattle.rl_model.specs.declared.report.Fate.TheVariants.{Arrived, Spent};
@@ -31,9 +32,9 @@ pub fn drives_are_safe()
 /// than a report may have.
 pub fn runs_are_safe()
     ensures few { (net : NetworkPlan) (tries : ℕ) (report : Report)
-        → IsNetwork net → tries ≤ 1000 → IsRunReport net tries report → length report.moves ≤ MAX_MOVES }
+        → IsNetwork net → AreFewTries tries → IsRunReport net tries report → length report.moves ≤ MAX_MOVES }
     ensures safe { (net : NetworkPlan) (tries : ℕ) (text : List ℕ)
-        → IsNetwork net → tries ≤ 1000 → IsRunText net tries text → IsCalledSafe net text }
+        → IsNetwork net → AreFewTries tries → IsRunText net tries text → IsCalledSafe net text }
 {
     counted_events();
     tables_of_networks();

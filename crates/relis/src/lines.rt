@@ -29,12 +29,12 @@ fn put_nested(out: &mut Out, list: &[u8], i: u32, key: &[u8], j: u32) -> Result<
     out.text(b"]")
 }
 
-/// Appends the number of a line of a text.
-fn put_line_number(out: &mut Out, text: &[u8], n: u32) -> Result<(), NoMemory>
-    ensures { OnOk result (out.new ≡ out.old ++ text.now ++ decimal n) }
+/// Appends the text and the number.
+pub fn put_count(out: &mut Out, text: &[u8], count: u64) -> Result<(), NoMemory>
+    ensures { OnOk result (out.new ≡ out.old ++ text.now ++ decimal count) }
 {
     out.text(text)?;
-    out.number(u64::from(n))
+    out.number(count)
 }
 
 fn put_place(out: &mut Out, place: Place) -> Result<(), NoMemory>
@@ -46,6 +46,11 @@ fn put_place(out: &mut Out, place: Place) -> Result<(), NoMemory>
         Place::Format => out.text(b"format"),
         Place::Segments => out.text(b"segments"),
         Place::Segment(i) => put_item(out, b"segments", i, b""),
+        Place::Segs => out.text(b"segment"),
+        Place::SegItem(i) => put_item(out, b"segment", i, b""),
+        Place::SegName(i) => put_item(out, b"segment", i, b".name"),
+        Place::SegEnds(i) => put_item(out, b"segment", i, b".ends"),
+        Place::SegEnd(i, j) => put_nested(out, b"segment", i, b".ends", j),
         Place::Boxes => out.text(b"box"),
         Place::BoxItem(i) => put_item(out, b"box", i, b""),
         Place::BoxName(i) => put_item(out, b"box", i, b".name"),
@@ -58,8 +63,10 @@ fn put_place(out: &mut Out, place: Place) -> Result<(), NoMemory>
         Place::TrainName(i) => put_item(out, b"train", i, b".name"),
         Place::TrainRoute(i) => put_item(out, b"train", i, b".route"),
         Place::RouteItem(i, j) => put_nested(out, b"train", i, b".route", j),
-        Place::ScheduleLine(n) => put_line_number(out, b"schedule:", n),
-        Place::ReportLine(n) => put_line_number(out, b"report:", n),
+        Place::ScheduleLine(n) => put_count(out, b"schedule:", u64::from(n)),
+        Place::ReportLine(n) => put_count(out, b"report:", u64::from(n)),
+        Place::FateLine(n) => put_count(out, b"fates:", u64::from(n)),
+        Place::Word(n) => put_count(out, b"word:", u64::from(n)),
     }
 }
 
@@ -100,14 +107,14 @@ fn not_safe(alloc: Global, line: u32, guard: u32) -> Result<Out, NoMemory>
     ensures { IfOk result (λ out. out ≡ not_safe_line line guard) }
 {
     let mut out = Out::new(alloc);
-    put_count(&mut out, b"not safe ", line)?;
-    put_count(&mut out, b" ", guard)?;
+    put_count(&mut out, b"not safe ", u64::from(line))?;
+    put_count(&mut out, b" ", u64::from(guard))?;
     out.text(b"\n")?;
     Ok(out)
 }
 
 /// The line of a status, which is empty where a command's own text is put, or nothing.
-pub fn line_of(alloc: Global, status: Status) -> Result<Out, NoMemory>
+pub fn status_line(alloc: Global, status: Status) -> Result<Out, NoMemory>
     ensures { IfOk result (λ out. out ≡ status_line status) }
 {
     match status {
@@ -119,13 +126,6 @@ pub fn line_of(alloc: Global, status: Status) -> Result<Out, NoMemory>
     }
 }
 
-fn put_count(out: &mut Out, words: &[u8], count: u32) -> Result<(), NoMemory>
-    ensures { OnOk result (out.new ≡ out.old ++ words.now ++ decimal count) }
-{
-    out.text(words)?;
-    out.number(u64::from(count))
-}
-
 /// What `check` prints of an accepted network.
 pub fn accepted(alloc: Global, net: &Network) -> Result<Out, NoMemory>
     ensures { IfOk result (λ out. out ≡ accepted_line net.now) }
@@ -133,10 +133,10 @@ pub fn accepted(alloc: Global, net: &Network) -> Result<Out, NoMemory>
     let segments = net.segments();
     let layout = net.layout();
     let mut out = Out::new(alloc);
-    put_count(&mut out, b"accepted segments ", segments)?;
-    put_count(&mut out, b" boxes ", layout.boxes)?;
-    put_count(&mut out, b" trains ", layout.trains)?;
-    put_count(&mut out, b" nodes ", layout.nodes())?;
+    put_count(&mut out, b"accepted segments ", u64::from(segments))?;
+    put_count(&mut out, b" boxes ", u64::from(layout.boxes))?;
+    put_count(&mut out, b" trains ", u64::from(layout.trains))?;
+    put_count(&mut out, b" nodes ", u64::from(layout.nodes()))?;
     out.text(b"\n")?;
     Ok(out)
 }
@@ -146,7 +146,7 @@ pub fn safe(alloc: Global, moves: u32) -> Result<Out, NoMemory>
     ensures { IfOk result (λ out. out ≡ safe_line moves) }
 {
     let mut out = Out::new(alloc);
-    put_count(&mut out, b"safe moves ", moves)?;
+    put_count(&mut out, b"safe moves ", u64::from(moves))?;
     out.text(b"\n")?;
     Ok(out)
 }

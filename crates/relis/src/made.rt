@@ -1,4 +1,4 @@
-ghost use Rattle.std.specs.Prelude.{◌≡◌, ◌≤◌, ◌++◌, [], decimal, IfOk, OnOk, count_by};
+ghost use Rattle.std.specs.Prelude.{◌≡◌, ◌≤◌, ◌++◌, IfOk, OnOk, count_by};
 ghost use Rattle.std.specs.Prelude.{length};
 ghost use Rattle.rl_cli.specs.declared.order.Order.{Order};
 ghost use Rattle.rl_cli.specs.Limits.{IsWithinLimits};
@@ -8,9 +8,9 @@ ghost use Rattle.relis.specs.Commands.{IsMakeText};
 ghost use Rattle.relis.specs.Summaries.{is_refused, has_arrived, is_spent, is_underway, size_line, counts_line};
 
 use crate::drive::driven;
+use crate::lines::put_count;
 use rl_base::NoMemory;
 use rl_base::limits::{DEFAULT_TRIES, MAX_MAKE};
-use rl_drafts::first_refusals;
 use rl_make::make_draft;
 use rl_model::{Fate, Move, Outcome, Report};
 use rl_net::{NetRefusal, Network, check};
@@ -27,7 +27,6 @@ fn made_network(alloc: Global, n: u32) -> Result<Network, NoMemory>
     requires few { n ≤ MAX_MAKE }
     ensures { IfOk result (λ net. net ≡ network_of (ring n)) }
 {
-    first_refusals();
     match check(alloc, make_draft(alloc, n)?) {
         Ok(net) => Ok(net),
         Err(NetRefusal::NoMemory) => Err(NoMemory),
@@ -83,23 +82,16 @@ fn trains_underway(outcomes: &[Outcome]) -> usize
     outcomes.iter().filter(|o| is_underway(*o)).count()
 }
 
-fn put_count(out: &mut Out, words: &[u8], count: usize) -> Result<(), NoMemory>
-    ensures { OnOk result (out.new ≡ out.old ++ words.now ++ decimal count) }
-{
-    out.text(words)?;
-    out.number(count as u64)
-}
-
 /// Appends the line that says how large the network is.
 fn put_size(out: &mut Out, n: u32, net: &Network) -> Result<(), NoMemory>
     ensures { OnOk result (out.new ≡ out.old ++ size_line n net.now) }
 {
     let segments = net.segments();
     let layout = net.layout();
-    put_count(out, b"make ", n as usize)?;
-    put_count(out, b" segments ", segments as usize)?;
-    put_count(out, b" boxes ", layout.boxes as usize)?;
-    put_count(out, b" trains ", layout.trains as usize)?;
+    put_count(out, b"make ", u64::from(n))?;
+    put_count(out, b" segments ", u64::from(segments))?;
+    put_count(out, b" boxes ", u64::from(layout.boxes))?;
+    put_count(out, b" trains ", u64::from(layout.trains))?;
     out.text(b"\n")
 }
 
@@ -109,12 +101,12 @@ fn put_counts(out: &mut Out, report: &Report) -> Result<(), NoMemory>
 {
     let moves = report.moves.as_slice();
     let outcomes = report.outcomes.as_slice();
-    put_count(out, b"rounds ", MADE_ROUNDS as usize)?;
-    put_count(out, b" moves ", moves.len())?;
-    put_count(out, b" refused ", refused_moves(moves))?;
-    put_count(out, b" arrived ", arrived_trains(outcomes))?;
-    put_count(out, b" spent ", spent_trains(outcomes))?;
-    put_count(out, b" underway ", trains_underway(outcomes))?;
+    put_count(out, b"rounds ", u64::from(MADE_ROUNDS))?;
+    put_count(out, b" moves ", moves.len() as u64)?;
+    put_count(out, b" refused ", refused_moves(moves) as u64)?;
+    put_count(out, b" arrived ", arrived_trains(outcomes) as u64)?;
+    put_count(out, b" spent ", spent_trains(outcomes) as u64)?;
+    put_count(out, b" underway ", trains_underway(outcomes) as u64)?;
     out.text(b"\n")
 }
 

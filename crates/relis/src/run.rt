@@ -1,7 +1,8 @@
 ghost use Rattle.std.specs.Prelude.{[], ◌∷◌, ◌≤◌, IfOk, IfSome};
+ghost use Rattle.rl_base.specs.Tries.{AreFewTries};
+ghost use Rattle.rl_base.specs.declared.limits.TheConstants.{MIN_TRIES, MAX_WORKERS};
 ghost use Rattle.rl_cli.specs.declared.order.Order.{Order};
 ghost use Rattle.rl_cli.specs.Limits.{IsFrom, IsWithinLimits};
-ghost use Rattle.rl_cli.specs.declared.limits.TheConstants.{MOST_WORKERS};
 ghost use Rattle.relis.specs.Answers.{EndsAs, UnlessMemory};
 ghost use Rattle.relis.specs.Reading.{FetchesOf};
 ghost use Rattle.relis.specs.Runs.{IsRunText};
@@ -30,7 +31,7 @@ pub struct RunOptions {
 
 /// The pace that is asked for. Where no number of workers is, there is one for each node, up to `DEFAULT_WORKERS`.
 fn pace_of(net: &Network, options: RunOptions) -> Pace
-    requires { IfSome options.workers (IsFrom 1 MOST_WORKERS) }
+    requires { IfSome options.workers (IsFrom 1 MAX_WORKERS) }
     ensures { 1 ≤ result.workers }
 {
     let nodes = net.layout().nodes();
@@ -50,9 +51,9 @@ fn text_of_run<R: Threads + Wait + Sync, G: Gate>(
     options: RunOptions,
     gate: &G,
 ) -> Result<Out, NoMemory>
-    requires some_tries { 1 ≤ options.tries }
-    requires few_tries { options.tries ≤ 1000 }
-    requires workers { IfSome options.workers (IsFrom 1 MOST_WORKERS) }
+    requires some_tries { MIN_TRIES ≤ options.tries }
+    requires few_tries { AreFewTries options.tries }
+    requires workers { IfSome options.workers (IsFrom 1 MAX_WORKERS) }
     ensures { IfOk result (IsRunText net.now options.tries) }
 {
     // What acceptance gave, for the proof.

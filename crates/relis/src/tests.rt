@@ -2,11 +2,13 @@
 mod auditing;
 mod driving;
 mod failing;
+mod made;
 mod making;
 mod running;
 mod texts;
 
 use super::*;
+use made::made_text;
 use rl_base::{Args, Text};
 use rl_outside::{MemFiles, MemSink};
 use std::alloc::Global;
@@ -171,20 +173,6 @@ train T1 arrived 1 0
 end
 "#;
 
-/// The text of `tables STRAIGHT`, worked out by hand.
-const ONE_STEP_TABLES: &str = r#"relis tables 1
-box 0 W buffer left
-arm 0 A T1
-box 1 J1 joint left
-arm 0 A T1
-arm 1 B *
-box 2 E buffer left
-arm 0 B *
-train 0 T1 1
-step 0 J1 0 1 E 0 W 0
-end
-"#;
-
 /// The text of a drive of two attempts where a train stands in the way, worked out by hand.
 const TWICE_REFUSED: &str = r#"relis report 1
 tries 2
@@ -195,7 +183,7 @@ train T2 arrived 0 0
 end
 "#;
 
-/// The network of this name.
+/// The text of this name: a network, a report or a schedule.
 fn named(name: &str) -> &'static str {
     match name.as_bytes() {
         b"track" => TRACK,
@@ -207,6 +195,11 @@ fn named(name: &str) -> &'static str {
         b"two-wishes" => TWO_WISHES,
         b"ring" => RING,
         b"terminus" => TERMINUS,
+        b"one step" => ONE_STEP,
+        b"twice refused" => TWICE_REFUSED,
+        b"barred" => driving::BARRED,
+        b"both refused" => driving::BOTH_REFUSED,
+        b"reserved meanwhile" => driving::RESERVED_MEANWHILE,
         _ => "format = 1\n",
     }
 }
@@ -237,11 +230,21 @@ fn with_change(alloc: Global, text: &str, change: &str) -> Result<String, Fail> 
     changed(alloc, text, old.as_str(), new.as_str())
 }
 
-/// The network that a table names, or one with a change in it, after a stroke.
-fn network(alloc: Global, short: &str) -> Result<String, Fail> {
+/// The text that a table names, or one with a change in it, after a stroke.
+fn named_text(alloc: Global, short: &str) -> Result<String, Fail> {
     match short.split_once(" | ") {
         Some((name, change)) => with_change(alloc, named(name), change),
         None => Ok(named(short).to_string(alloc)?),
+    }
+}
+
+/// The text of a file as a table has it: the text itself after `= `, one that is made after `made `, or one that has a
+/// name.
+fn file_text(alloc: Global, short: &str) -> Result<String, Fail> {
+    match short.split_once(' ') {
+        Some(("=", text)) => text_of(alloc, text),
+        Some(("made", order)) => made_text(alloc, order),
+        _ => named_text(alloc, short),
     }
 }
 
@@ -290,38 +293,88 @@ fn answer_with(
     ended(alloc, &args, &mut files)
 }
 
-/// The status and the text of the command line, where the network text lies under the name `NET`.
-fn answer(alloc: Global, net: &[u8], line: &str) -> Result<(Status, Vec<u8>), Fail> {
-    answer_with(alloc, [("NET", net)].as_slice(), line)
+/// The number with which the program ends that prints the text.
+fn number_for(text: &str) -> u8 {
+    if text.starts_with("usage") {
+        1
+    } else if text.starts_with("read fault") {
+        2
+    } else if text.starts_with("refused") {
+        3
+    } else if text.starts_with("not safe") {
+        7
+    } else {
+        0
+    }
 }
 
-/// Asserts that the command line ends with this number on the network text, and writes this text.
+/// Asserts that the command line writes this text, and ends with its number, where these bytes lie under the names
+/// `NET` and `OTHER`.
 fn assert_answer(
     rt: &impl Abort,
     alloc: Global,
-    net: &[u8],
     line: &str,
-    number: u8,
+    net: &[u8],
+    other: &[u8],
     text: &str,
 ) -> Result<(), Fail> {
-    let (status, written) = answer(alloc, net, line)?;
-    assert_eq!(rt; status.number(), number, "{text}");
-    assert_eq!(rt; written.as_slice(), text.as_bytes(), "{text}");
+    let files = [("NET", net), ("OTHER", other)];
+    let (status, written) = answer_with(alloc, files.as_slice(), line)?;
+    assert_eq!(rt; written.as_slice(), text.as_bytes(), "at {line}");
+    assert_eq!(rt; status.number(), number_for(text), "at {line}");
     Ok(())
 }
 
-/// Asserts the same where a second file lies beside the network.
-fn assert_answer_beside(
+/// The commands that read a network. A second file, which isn't there, isn't read where the network is refused.
+const COMMANDS: &str = "\
+check NET
+tables NET
+drive NET 5
+drive NET -s NONE
+audit NET NONE
+";
+
+/// Asserts the answer to the command line, or to each command that reads a network.
+fn assert_answers(
     rt: &impl Abort,
     alloc: Global,
-    net: &[u8],
-    file: (&str, &[u8]),
     line: &str,
-    number: u8,
+    net: &[u8],
+    other: &[u8],
     text: &str,
 ) -> Result<(), Fail> {
-    let (status, written) = answer_with(alloc, [("NET", net), file].as_slice(), line)?;
-    assert_eq!(rt; status.number(), number, "{text}");
-    assert_eq!(rt; written.as_slice(), text.as_bytes(), "{text}");
+    if line != "each command" {
+        return assert_answer(rt, alloc, line, net, other, text);
+    }
+    for line in COMMANDS.lines() {
+        assert_answer(rt, alloc, line, net, other, text)?;
+    }
+    Ok(())
+}
+
+/// Asserts a row of a table: the command line, behind it each after an arrow the text under `NET` and the one under
+/// `OTHER`, if there is one, and on the lines after it what is written.
+fn assert_row(rt: &impl Abort, alloc: Global, row: &str) -> Result<(), Fail> {
+    let (head, text) = row.split_once('\n').ok_or("no answer")?;
+    let (line, files) = head.split_once(" <- ").ok_or("no network")?;
+    let (net, other) = files.split_once(" <- ").unwrap_or((files, "= "));
+    let net = file_text(alloc, net)?;
+    let other = file_text(alloc, other)?;
+    let text = format!(in alloc; "{text}\n")?;
+    assert_answers(
+        rt,
+        alloc,
+        line,
+        net.as_bytes(),
+        other.as_bytes(),
+        text.as_str(),
+    )
+}
+
+/// Asserts each row of a table. An empty line parts them.
+fn assert_rows(rt: &impl Abort, alloc: Global, rows: &str) -> Result<(), Fail> {
+    for row in rows.split("\n\n") {
+        assert_row(rt, alloc, row.trim_end())?;
+    }
     Ok(())
 }

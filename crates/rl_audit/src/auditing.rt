@@ -89,7 +89,7 @@ fn judge_rest(
 {
     // The law of the moves, and what acceptance gave, for the proof.
     safe_runs();
-    let _trains = net.trains();
+    net.accepted();
     judge_trains(net, tries, lines, judge)?;
     match lines.end(net) {
         Ok(()) => Ok(judge.verdict()),
@@ -102,7 +102,7 @@ fn audit_text(alloc: Global, net: &Network, text: &[u8]) -> Result<Verdict, Repo
 {
     // The laws of reading, and what acceptance gave, for the proof.
     reading_laws();
-    let _trains = net.trains();
+    net.accepted();
     if text.len() > MAX_REPORT_BYTES {
         return Err(ReportRefusal::Long);
     }
@@ -130,6 +130,6 @@ pub fn audit(alloc: Global, net: &Network, text: &[u8]) -> Result<Verdict, Repor
     // The laws that a text has one reading and a report one verdict, and what acceptance gave, for the proof.
     one_reading();
     one_verdict();
-    let _trains = net.trains();
+    net.accepted();
     audit_text(alloc, net, text)
 }

@@ -1,5 +1,6 @@
-ghost use Rattle.std.specs.Prelude.{◌≡◌, ◌+◌, ◌<◌, ◌^◌, [], ◌∷◌, ◌++◌};
+ghost use Rattle.std.specs.Prelude.{◌≡◌, ◌+◌, ◌<◌, [], ◌∷◌, ◌++◌};
 ghost use Rattle.std.specs.Prelude.{ℕ, List, length, slice_get, slice_set, Some, IfOk};
+ghost use Rattle.rl_base.specs.Numbers.{IsU32};
 ghost use Rattle.rl_model.specs.declared.moves.Move.{Move};
 ghost use Rattle.rl_audit.specs.Counting.{AreCounts, IsCounted};
 ghost use Rattle.rl_audit.specs.declared.counts.Count.{Count};
@@ -34,7 +35,7 @@ pub(crate) fn no_counts(alloc: Global, trains: u32) -> Result<Vec<Count>, NoMemo
 fn add_made(counts: &mut Vec<Count>, t: TrainId)
     requires { t.0 < length counts.old.items }
     ensures len { length counts.new.items ≡ length counts.old.items }
-    ensures counted { (x : Count) → slice_get counts.old.items t.0 ≡ Some x → x.made + 1 < 2 ^ 32
+    ensures counted { (x : Count) → slice_get counts.old.items t.0 ≡ Some x → IsU32 (x.made + 1)
         → counts.new.items ≡ slice_set counts.old.items t.0 (record x { made = x.made + 1 }) }
 {
     let count = &mut counts[t.0 as usize];
@@ -45,7 +46,7 @@ fn add_made(counts: &mut Vec<Count>, t: TrainId)
 fn add_refused(counts: &mut Vec<Count>, t: TrainId)
     requires { t.0 < length counts.old.items }
     ensures len { length counts.new.items ≡ length counts.old.items }
-    ensures counted { (x : Count) → slice_get counts.old.items t.0 ≡ Some x → x.refused + 1 < 2 ^ 32
+    ensures counted { (x : Count) → slice_get counts.old.items t.0 ≡ Some x → IsU32 (x.refused + 1)
         → counts.new.items ≡ slice_set counts.old.items t.0 (record x { refused = x.refused + 1 }) }
 {
     let count = &mut counts[t.0 as usize];
@@ -56,7 +57,7 @@ fn add_refused(counts: &mut Vec<Count>, t: TrainId)
 pub(crate) fn count_move(counts: &mut Vec<Count>, m: Move)
     requires { IsCounted (length counts.old.items) m }
     ensures len { length counts.new.items ≡ length counts.old.items }
-    ensures counted { (moves : List Move) → length moves + 1 < 2 ^ 32
+    ensures counted { (moves : List Move) → IsU32 (length moves + 1)
         → AreCounts moves counts.old.items → AreCounts (moves ++ m ∷ []) counts.new.items }
 {
     match m {

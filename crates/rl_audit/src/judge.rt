@@ -106,7 +106,7 @@ impl Judge {
         ensures moves { self.new.moves ≡ self.old.moves }
     {
         // What acceptance gave, for the proof.
-        let _trains = net.trains();
+        net.accepted();
         if self.failure.is_some() {
             return;
         }

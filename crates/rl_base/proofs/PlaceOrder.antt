@@ -28,10 +28,6 @@ is_no_later-trans (x ∷ xs) (y ∷ ys) (z ∷ zs) a b =
         → (ltb x z || (eqb x z && u)) ≡ true
     heads x y z s t u rest a b = grind (arith, nat_tests)
 
--- likewise of places
-pub IsNoLater-trans : (p q r : Place) → IsNoLater p q → IsNoLater q r → IsNoLater p r
-IsNoLater-trans p q r a b = is_no_later-trans (place_key p) (place_key q) (place_key r) a b
-
 -- of two keys neither of which is after the other, both are the same
 is_no_later-antisymmetric : (xs ys : List ℕ) → is_no_later xs ys ≡ true → is_no_later ys xs ≡ true → xs ≡ ys
 is_no_later-antisymmetric [] [] a b = refl

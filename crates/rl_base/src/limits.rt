@@ -31,7 +31,7 @@ pub const MAX_TRIES: u32 = 1000;
 pub const DEFAULT_TRIES: u32 = 100;
 
 /// The most rounds of a drive.
-pub const MAX_ROUNDS: u64 = 1_000_000;
+pub const MAX_ROUNDS: u32 = 1_000_000;
 
 /// The most turns of a schedule.
 pub const MAX_TURNS: u64 = 1_000_000;

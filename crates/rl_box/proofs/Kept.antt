@@ -1,6 +1,7 @@
 -- A step of a box leaves its mind well formed, and a word that can be packed.
 use Rattle.std.proofs.Common.{◌≡◌, ◌≢◌, ℕ, ◌<◌, ◌≤◌, ◌==◌, Bool, true, false, Option, Some, None, cond, refl, sym, subst, arith}
 use Rattle.std.proofs.lemmas.Bool.{and_parts, ltb-true}
+use Rattle.rl_base.specs.declared.limits.TheConstants.{MAX_BOXES, MAX_TRAINS}
 use Rattle.rl_base.specs.declared.ids.TrainId.{TrainId}
 use Rattle.rl_base.specs.declared.job.Verb.{Verb}
 use Rattle.rl_base.specs.declared.job.Verb.TheVariants as verbs
@@ -41,7 +42,7 @@ few_arms Crossing = omega arith
 passage : (verb : Verb) (x y : ℕ) → verb ≡ verbs.Lock → FitsArms verb x y → x ≢ y
 passage verb x y is f = let P : Verb → Type 0 = λ v. FitsArms v x y in subst P is f
 
-path_fits : (lay : Layout) (b : BoxTable) (t : TrainId) (l : Letter) → lay.trains ≤ 32 → t.0 < lay.trains → IsLetterTo b l → l.verb ≡ verbs.Lock
+path_fits : (lay : Layout) (b : BoxTable) (t : TrainId) (l : Letter) → lay.trains ≤ MAX_TRAINS → t.0 < lay.trains → IsLetterTo b l → l.verb ≡ verbs.Lock
     → FitsPath (path_of t l)
 path_fits lay b t l few train letter is =
     record { train = omega arith; x = letter.fits.x; y = letter.fits.y; apart = passage l.verb l.x.0 l.y.0 is letter.fits.arms }
@@ -49,7 +50,8 @@ path_fits lay b t l few train letter is =
 refusable : (verb may : Verb) → verb ≡ may → IsRefusable may → IsRefusable verb
 refusable verb may is r = subst IsRefusable (sym is) r
 
-pub box_kept : KeepsArms → (lay : Layout) (b : BoxTable) (mind : BoxMind) (word next : Word) (after : BoxMind) → lay.trains ≤ 32 → b.number.0 < 128
+pub box_kept : KeepsArms → (lay : Layout) (b : BoxTable) (mind : BoxMind) (word next : Word) (after : BoxMind) → lay.trains ≤ MAX_TRAINS
+    → b.number.0 < MAX_BOXES
     → BoxStep b mind word next after → IsBoxMind lay b mind → HasWord lay (kind_of word) → FitsWord word → FitsWord next × IsBoxMind lay b after
 box_kept arms lay b _ _ _ _ few small (take t l waiting to has) h there fits =
     let tests = and_parts _ _ has in
@@ -57,7 +59,7 @@ box_kept arms lay b _ _ _ _ few small (take t l waiting to has) h there fits =
 box_kept arms lay b _ _ _ _ few small (reserve t l waiting w is free) h there fits =
     let train = h.work.0 in
     let letter = h.work.1 in
-    let one : t.0 < 32 = omega arith in
+    let one : t.0 < MAX_TRAINS = omega arith in
     (arms w l.x.0 (Some t) fits one letter.fits.x, record { work = (train, letter, tt); waiting = h.waiting })
 box_kept arms lay b _ _ _ _ few small (refuse t u l waiting w is held other) h there fits =
     let holder : FitsArm (Some u) = subst FitsArm held (arm_fits w l.x.0 fits) in

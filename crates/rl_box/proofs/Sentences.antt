@@ -26,7 +26,8 @@ use Rattle.rl_box.specs.declared.mind.BoxMind.{BoxMind}
 use Rattle.rl_box.specs.declared.mind.Work.{Work}
 use Rattle.rl_box.specs.declared.mind.Work.TheVariants.{Ready, Serve, Say}
 use Rattle.rl_box.specs.Mind.{box_at}
-use Rattle.rl_box.specs.Steps.{path_of, other_side, connects, BoxStep, same_train, same_path, answered, mail_turn, resv_turn, on_resv, lock_turn, points_turn, on_lock, box_on}
+use Rattle.rl_box.specs.Steps.{path_of, other_side, connects, BoxStep, same_train, same_path, answered, mail_turn, resv_turn, on_resv, lock_turn, points_turn}
+use Rattle.rl_box.specs.Steps.{on_lock, box_on}
 use Rattle.rl_box.specs.Steps.BoxStep.{take, reserve, refuse, release, lock, ask, moved, unlock, say_yes, say_refused, say_barred, busy}
 use Rattle.rl_words.proofs.PackedSteps.{guarded, unless, mapped}
 

@@ -1,7 +1,9 @@
 -- The laws of the steps of a box.
-use Rattle.std.proofs.Common.{◌≡◌, ℕ, ◌^◌, ◌<◌, ◌≤◌, nat_lt, true, false, Some, if◌then◌else◌, refl, sym, ap, subst, ◌∙◌, arith}
+use Rattle.std.proofs.Common.{◌≡◌, ℕ, ◌<◌, ◌≤◌, nat_lt, true, false, Some, if◌then◌else◌, refl, sym, ap, subst, ◌∙◌, arith}
 use Rattle.std.proofs.lemmas.Bool.{lt-ltb, le-ltb}
 use Rattle.std.proofs.lemmas.Option.{some_pair_parts}
+use Rattle.rl_base.specs.declared.limits.TheConstants.{MAX_BOXES}
+use Rattle.rl_base.specs.Numbers.{IsU32}
 use Rattle.rl_base.specs.declared.job.Verb.{Verb}
 use Rattle.rl_base.specs.declared.job.Verb.TheVariants as verbs
 use Rattle.rl_base.specs.declared.layout.Layout.{Layout}
@@ -103,7 +105,7 @@ abbrev pub ReadsWords : Type 0
 ReadsWords = (kind : WordKind) (n : ℕ) (word : Word) → read_word kind n ≡ Some word → IsReading kind n word
 
 abbrev pub PacksSmall : Type 0
-PacksSmall = (word : Word) → FitsWord word → packed_word word < 2 ^ 32
+PacksSmall = (word : Word) → FitsWord word → IsU32 (packed_word word)
 
 abbrev pub OwnsWords : Type 0
 OwnsWords = (lay : Layout) (word : Word) → HasWord lay (kind_of word) → HasNode lay (word_owner word) → FitsWord word
@@ -116,7 +118,7 @@ keeps same arms reads small owns lay b mind kind payload new after at e =
     let p = step_front same b mind kind payload new after e in
     let r = reads kind payload p.seen p.reads in
     let there : HasWord lay (kind_of p.seen) = subst (HasWord lay) (sym r.kind_is) at.word in
-    let number : b.number.0 < 128 = let h = at.boxes in let k = at.there in omega arith in
+    let number : b.number.0 < MAX_BOXES = let h = at.boxes in let k = at.there in omega arith in
     let kept = box_kept arms lay b mind p.seen p.left after at.trains number p.step at.mind_is there r.fits in
     let own = owner lay b mind p.seen p.left after p.step at.mind_is in
     let node : HasNode lay (word_owner p.seen) = subst (HasNode lay) (sym own) at.there in
@@ -131,6 +133,6 @@ keeps same arms reads small owns lay b mind kind payload new after at e =
       saw = p.reads;
       step = p.step;
       reads = record { kind_is = same_kind b mind p.seen p.left after p.step ∙ r.kind_is; fits = kept.0; packed = p.packs };
-      small = subst (λ n. n < 2 ^ 32) p.packs (small p.left kept.0);
+      small = subst (λ n. IsU32 n) p.packs (small p.left kept.0);
       after_is = kept.1;
     }

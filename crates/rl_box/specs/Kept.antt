@@ -1,5 +1,7 @@
 -- What every step of a box keeps to.
-use Rattle.std.specs.Prelude.{◌≡◌, ℕ, ◌^◌, ◌<◌, ◌≤◌, Some}
+use Rattle.std.specs.Prelude.{◌≡◌, ℕ, ◌<◌, ◌≤◌, Some}
+use Rattle.rl_base.specs.declared.limits.TheConstants.{MAX_BOXES, MAX_TRAINS}
+use Rattle.rl_base.specs.Numbers.{IsU32}
 use Rattle.rl_base.specs.declared.layout.Layout.{Layout}
 use Rattle.rl_base.specs.declared.layout.NodeKind.TheVariants as nodes
 use Rattle.rl_base.specs.declared.layout.WordKind.{WordKind}
@@ -13,8 +15,8 @@ use Rattle.rl_box.specs.Steps.{BoxStep, box_target}
 
 -- a box of a line, with a well-formed mind, and a word of the line
 pub record IsAtWord (lay : Layout) (b : BoxTable) (mind : BoxMind) (kind : WordKind) : Type 0 where
-  pub boxes : lay.boxes ≤ 128
-  pub trains : lay.trains ≤ 32
+  pub boxes : lay.boxes ≤ MAX_BOXES
+  pub trains : lay.trains ≤ MAX_TRAINS
   pub there : b.number.0 < lay.boxes
   pub mind_is : IsBoxMind lay b mind
   pub word : HasWord lay kind
@@ -30,5 +32,5 @@ pub record KeepsBox (lay : Layout) (b : BoxTable) (mind : BoxMind) (kind : WordK
   pub saw : read_word kind payload ≡ Some seen
   pub step : BoxStep b mind seen left after
   pub reads : IsReading kind new left
-  pub small : new < 2 ^ 32
+  pub small : IsU32 new
   pub after_is : IsBoxMind lay b after

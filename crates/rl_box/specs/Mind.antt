@@ -1,5 +1,6 @@
 -- The mind of a box: at the start, and what is true of it at all times.
 use Rattle.std.specs.Prelude.{◌≡◌, ◌≢◌, ◌<◌, Option, Some, None}
+use Rattle.rl_base.specs.declared.limits.TheConstants.{MAX_TRAINS}
 use Rattle.rl_base.specs.declared.layout.Layout.{Layout}
 use Rattle.rl_base.specs.Kind.{arms_of}
 use Rattle.rl_words.specs.declared.lock.Path.{Path}
@@ -29,7 +30,7 @@ pub record IsLetterTo (b : BoxTable) (l : Letter) : Type 0 where
 -- who holds what was asked for has a number that a word can say
 abbrev pub IsAnswer : Answer → Type 0
 IsAnswer Yes = Unit {0}
-IsAnswer (No holder) = holder.0 < 32
+IsAnswer (No holder) = holder.0 < MAX_TRAINS
 
 -- the box has in hand a letter to it, of a train that there is
 abbrev pub IsWork : Layout → BoxTable → Work → Type 0

@@ -1,5 +1,6 @@
 -- The steps of a box: first as sentences, one for each line of the table of steps, then as a function.
-use Rattle.std.specs.Prelude.{◌≡◌, ◌≢◌, ℕ, ◌==◌, nat_lt, Bool, true, false, ◌&&◌, Option, Some, None, option_map, if◌then◌else◌}
+use Rattle.std.specs.Prelude.{◌≡◌, ◌≢◌, ℕ, ◌==◌, nat_lt, Bool, true, false, ◌&&◌, Option, Some, None, option_map}
+use Rattle.std.specs.Prelude.{if◌then◌else◌}
 use Rattle.rl_base.specs.declared.ids.TrainId.{TrainId}
 use Rattle.rl_base.specs.declared.job.Verb.{Verb}
 use Rattle.rl_base.specs.declared.job.Verb.TheVariants as verbs

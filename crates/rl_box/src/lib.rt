@@ -13,3 +13,4 @@ mod steps;
 
 pub use laws::{box_glances, box_lines, box_steps};
 pub use mind::{Answer, BoxMind, Work};
+pub use points::other_side;

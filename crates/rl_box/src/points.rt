@@ -1,4 +1,5 @@
 ghost use Rattle.std.specs.Prelude.{◌≡◌, ◌<◌, IfSome};
+ghost use Rattle.rl_base.specs.declared.limits.TheConstants.{MAX_TRAINS};
 ghost use Rattle.rl_base.specs.declared.job.Verb.TheVariants as verbs;
 ghost use Rattle.rl_words.specs.Lock.{FitsPath, FitsLock};
 ghost use Rattle.rl_words.specs.Mail.{FitsLetter, about_passage};
@@ -26,7 +27,8 @@ fn is_same(p: &Path, q: &Path) -> bool
     p.train.0 == q.train.0 && p.x.0 == q.x.0 && p.y.0 == q.y.0
 }
 
-fn other_side(side: Side) -> Side
+/// The other of the two sides.
+pub fn other_side(side: Side) -> Side
     ensures { result ≡ other_side side }
 {
     match side {
@@ -59,7 +61,7 @@ pub(crate) fn serve(
     letter: Letter,
     word: LockWord,
 ) -> Option<(LockWord, BoxMind)>
-    requires train { t.0 < 32 }
+    requires train { t.0 < MAX_TRAINS }
     requires letter { FitsLetter letter }
     requires word { FitsLock word }
     ensures step { result ≡ lock_turn b.now t letter letter.verb word }
@@ -75,7 +77,7 @@ pub(crate) fn serve(
 /// It locks the passage where it connects it, asks for its points where it does so at the other side alone, and is
 /// busy where another train has the lock.
 fn lock(b: &BoxTable, t: TrainId, letter: Letter, word: LockWord) -> Option<(LockWord, BoxMind)>
-    requires train { t.0 < 32 }
+    requires train { t.0 < MAX_TRAINS }
     requires verb { letter.verb ≡ verbs.Lock }
     requires letter { FitsLetter letter }
     requires word { FitsLock word }
@@ -94,7 +96,7 @@ fn lock(b: &BoxTable, t: TrainId, letter: Letter, word: LockWord) -> Option<(Loc
 
 /// It locks the passage, or asks for its points.
 fn lock_free(b: &BoxTable, t: TrainId, letter: Letter, side: Side) -> Option<(LockWord, BoxMind)>
-    requires train { t.0 < 32 }
+    requires train { t.0 < MAX_TRAINS }
     requires verb { letter.verb ≡ verbs.Lock }
     requires letter { FitsLetter letter }
     ensures step { result ≡ lock_turn b.now t letter verbs.Lock (LockWord.Free side) }

@@ -1,4 +1,5 @@
 ghost use Rattle.std.specs.Prelude.{◌≡◌, ◌<◌, IfSome};
+ghost use Rattle.rl_base.specs.declared.limits.TheConstants.{MAX_TRAINS};
 ghost use Rattle.rl_base.specs.declared.job.Verb.TheVariants as verbs;
 ghost use Rattle.rl_words.specs.Resv.{FitsResv, arm_in};
 ghost use Rattle.rl_box.specs.Mind.{IsAnswer};
@@ -10,7 +11,7 @@ use rl_words::{Letter, ResvWord};
 
 /// What a box that serves the letter of the train does with its reservation word: the new word and the answer.
 pub(crate) fn serve(t: TrainId, letter: Letter, word: ResvWord) -> Option<(ResvWord, Answer)>
-    requires train { t.0 < 32 }
+    requires train { t.0 < MAX_TRAINS }
     requires arm { letter.x.0 < 4 }
     requires word { FitsResv word }
     ensures step { result ≡ resv_turn t letter letter.verb word (arm_in word letter.x.0) }
@@ -25,7 +26,7 @@ pub(crate) fn serve(t: TrainId, letter: Letter, word: ResvWord) -> Option<(ResvW
 
 /// It reserves the arm where it is free, and refuses it where another train holds it.
 fn reserve(t: TrainId, letter: Letter, word: ResvWord) -> Option<(ResvWord, Answer)>
-    requires train { t.0 < 32 }
+    requires train { t.0 < MAX_TRAINS }
     requires arm { letter.x.0 < 4 }
     requires word { FitsResv word }
     ensures step { result ≡ resv_turn t letter verbs.Reserve word (arm_in word letter.x.0) }

@@ -1,4 +1,5 @@
 ghost use Rattle.std.specs.Prelude.{◌≡◌, ◌<◌, ◌≤◌, false, None, IfSome};
+ghost use Rattle.rl_base.specs.declared.limits.TheConstants.{MAX_BOXES, MAX_TRAINS};
 ghost use Rattle.rl_base.specs.declared.layout.WordKind.{WordKind};
 ghost use Rattle.rl_base.specs.declared.layout.WordKind.TheVariants as kinds;
 ghost use Rattle.rl_base.specs.Layout.{word_count, word_number, HasWord};
@@ -18,7 +19,7 @@ use rl_words::{Letter, LockWord, MailWord, Path, ResvWord};
 
 /// Whether the lowest ten bits are those of a letter to the box that is asked.
 fn asks_box(b: BoxId, payload: u32) -> bool
-    requires { b.0 < 128 }
+    requires { b.0 < MAX_BOXES }
     ensures { result ≡ asks_box b payload }
 {
     payload & 0x3ff == 1 + 8 * b.0
@@ -35,8 +36,8 @@ impl BoxMind {
     /// The word at which the box looks, at its scan place while it is ready: the mail words of all trains, and after
     /// them its own lock word.
     pub fn target(&self, lay: &Layout, b: &BoxTable, scan: u32) -> WordNo
-        requires boxes { lay.now.boxes ≤ 128 }
-        requires trains { lay.now.trains ≤ 32 }
+        requires boxes { lay.now.boxes ≤ MAX_BOXES }
+        requires trains { lay.now.trains ≤ MAX_TRAINS }
         requires there { b.now.number.0 < lay.now.boxes }
         requires scan { scan ≤ lay.now.trains }
         requires mind { IsBoxMind lay.now b.now self.now }
@@ -57,8 +58,8 @@ impl BoxMind {
     /// The step that fits the word and its payload: the new payload and the mind after it. `None` exactly where no
     /// step fits.
     pub fn act(&self, lay: &Layout, b: &BoxTable, w: WordNo, payload: u32) -> Option<(u32, BoxMind)>
-        requires boxes { lay.now.boxes ≤ 128 }
-        requires trains { lay.now.trains ≤ 32 }
+        requires boxes { lay.now.boxes ≤ MAX_BOXES }
+        requires trains { lay.now.trains ≤ MAX_TRAINS }
         requires there { b.now.number.0 < lay.now.boxes }
         requires within { w.0 < word_count lay.now }
         requires mind { IsBoxMind lay.now b.now self.now }
@@ -78,7 +79,7 @@ impl BoxMind {
     /// A glance at a payload, before it is unpacked: a box that is ready takes a letter to it, or finds that the points
     /// for which it waits have moved. Where it says no, the box of this number has no step there.
     pub fn may_step(&self, b: BoxId, payload: u32) -> bool
-        requires { b.0 < 128 }
+        requires { b.0 < MAX_BOXES }
         ensures glance { result ≡ may_step b self.now.work self.now.waiting payload }
         ensures none { (table : BoxTable) (kind : WordKind) → table.number ≡ b → result ≡ false
             → box_step table self.now kind payload ≡ None }
@@ -101,7 +102,7 @@ impl BoxMind {
         kind: WordKind,
         payload: u32,
     ) -> Option<(u32, BoxMind)>
-        requires trains { lay.now.trains ≤ 32 }
+        requires trains { lay.now.trains ≤ MAX_TRAINS }
         requires mind { IsBoxMind lay.now b.now self.now }
         ensures { result ≡ box_step b.now self.now kind payload }
     {
@@ -158,7 +159,7 @@ impl BoxMind {
         payload: u32,
     ) -> Option<(u32, BoxMind)>
         requires work { self.now.work ≡ Work.Serve t letter }
-        requires train { t.0 < 32 }
+        requires train { t.0 < MAX_TRAINS }
         requires letter { FitsLetter letter }
         ensures { result ≡ box_step b.now self.now (kinds.Resv b.now.number) payload }
     {
@@ -175,7 +176,7 @@ impl BoxMind {
         payload: u32,
     ) -> Option<(u32, BoxMind)>
         requires work { self.now.work ≡ Work.Serve t letter }
-        requires train { t.0 < 32 }
+        requires train { t.0 < MAX_TRAINS }
         requires letter { FitsLetter letter }
         ensures { result ≡ box_step b.now self.now (kinds.Lock b.now.number) payload }
     {

@@ -8,6 +8,7 @@ use Rattle.clap.specs.Takes.{takes}
 use Rattle.clap.specs.Matches.{first_value, found_of}
 use Rattle.clap.specs.declared.parser.matches.ArgMatches.{ArgMatches}
 use Rattle.clap.proofs.WalkLemmas.{both, first_value-rows}
+use Rattle.rl_base.specs.declared.limits.TheConstants.{MIN_TRIES, MAX_TRIES, MAX_ROUNDS, MIN_ROUND, MAX_ROUND, MAX_WORKERS, MAX_MAKE}
 use Rattle.rl_cli.specs.Words.{IsSmall, fits}
 use Rattle.rl_cli.specs.Table.{item_of, name_of, audit, check, drive, make, rounds, run, rounds_asked, schedule_of, stations_asked, value, word}
 use Rattle.rl_cli.specs.Written.{fit, has_option, is_option_of}
@@ -225,8 +226,8 @@ pub rounds_numbers : (words : List Text) → is_in rounds words ≡ true
     → IsSmall (word (given_in rounds (drop 1 words)) 1) × IfSome (value (given_in rounds (drop 1 words)) Tries) IsSmall
 rounds_numbers words e =
     let p = parts (File ∷ rounds_asked ∷ []) (Tries ∷ []) [] (drop 1 words) e in (
-      number_small 0 1000000 _ (lit< tt) (second_fits File rounds_asked (take 2 (drop 1 words)) p.positionals),
-      numbers_small 1 1000 _ (lit< tt) (option_value_fits (Tries ∷ []) (drop 2 (drop 1 words)) Tries p.options),
+      number_small 0 MAX_ROUNDS _ (lit< tt) (second_fits File rounds_asked (take 2 (drop 1 words)) p.positionals),
+      numbers_small MIN_TRIES MAX_TRIES _ (lit< tt) (option_value_fits (Tries ∷ []) (drop 2 (drop 1 words)) Tries p.options),
     )
 
 pub drive_numbers : (words : List Text) → is_in drive words ≡ true
@@ -235,7 +236,7 @@ pub drive_numbers : (words : List Text) → is_in drive words ≡ true
 drive_numbers words e =
     let p = parts (File ∷ []) drive_flags (Schedule ∷ []) (drop 1 words) e in (
       there (name_of Schedule) (pairs (drop 1 (drop 1 words))) (both _ _ p.needed).0,
-      numbers_small 1 1000 _ (lit< tt) (option_value_fits drive_flags (drop 1 (drop 1 words)) Tries p.options),
+      numbers_small MIN_TRIES MAX_TRIES _ (lit< tt) (option_value_fits drive_flags (drop 1 (drop 1 words)) Tries p.options),
     )
 
 pub run_numbers : (words : List Text) → is_in run words ≡ true
@@ -243,12 +244,12 @@ pub run_numbers : (words : List Text) → is_in run words ≡ true
     × IfSome (value (given_in run (drop 1 words)) Round) IsSmall
 run_numbers words e =
     let p = parts (File ∷ []) run_flags [] (drop 1 words) e in (
-      numbers_small 1 1000 _ (lit< tt) (option_value_fits run_flags (drop 1 (drop 1 words)) Tries p.options),
-      numbers_small 1 320 _ (lit< tt) (option_value_fits run_flags (drop 1 (drop 1 words)) Workers p.options),
-      numbers_small 1 4096 _ (lit< tt) (option_value_fits run_flags (drop 1 (drop 1 words)) Round p.options),
+      numbers_small MIN_TRIES MAX_TRIES _ (lit< tt) (option_value_fits run_flags (drop 1 (drop 1 words)) Tries p.options),
+      numbers_small 1 MAX_WORKERS _ (lit< tt) (option_value_fits run_flags (drop 1 (drop 1 words)) Workers p.options),
+      numbers_small MIN_ROUND MAX_ROUND _ (lit< tt) (option_value_fits run_flags (drop 1 (drop 1 words)) Round p.options),
     )
 
 pub make_numbers : (words : List Text) → is_in make words ≡ true → IsSmall (word (given_in make (drop 1 words)) 0)
 make_numbers words e =
     let p = parts (stations_asked ∷ []) [] [] (drop 1 words) e in
-    number_small 1 32 _ (lit< tt) (first_fits stations_asked (take 1 (drop 1 words)) p.positionals)
+    number_small 1 MAX_MAKE _ (lit< tt) (first_fits stations_asked (take 1 (drop 1 words)) p.positionals)

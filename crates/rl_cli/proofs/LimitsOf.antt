@@ -1,15 +1,14 @@
 -- The numbers of a written form are within the limits of the table.
-use Rattle.std.proofs.Common.{◌≡◌, ◌≤◌, ◌&&◌, ℕ, Bool, true, false, cond, Option, Some, None, IfSome, Result, Ok, Err, IfOk, inl, inr, refl, sym, subst, true≢false, nat_le, arith, unwrap_or}
+use Rattle.std.proofs.Common.{◌≡◌, ◌&&◌, ℕ, Bool, true, false, cond, Option, Some, None, IfSome, Result, Ok, Err, IfOk, inl, inr, refl, sym, subst, true≢false, nat_le, arith, unwrap_or}
 use Rattle.std.specs.Prelude.{is_some, option_and_then, option_map, List, [], ◌∷◌}
 use Rattle.std.proofs.lemmas.Bool.Decides.{nat_tests}
-use Rattle.clap.proofs.WalkLemmas.{both}
+use Rattle.rl_base.specs.declared.limits.TheConstants.{MAX_ROUNDS, MIN_TRIES, MAX_TRIES, DEFAULT_TRIES, MAX_WORKERS, MIN_ROUND, MAX_ROUND, DEFAULT_ROUND, MAX_MAKE}
 use Rattle.rl_text.specs.Number.{number_of}
 use Rattle.rl_cli.specs.Words.{Text, fits, number, within}
-use Rattle.rl_cli.specs.Table.{Given, check, tables, rounds, drive, run, audit, make, rounds_asked, stations_asked}
+use Rattle.rl_cli.specs.Table.{check, tables, rounds, drive, run, audit, make, rounds_asked, stations_asked}
 use Rattle.rl_cli.specs.Written.{IsWritten, IsWrittenAs}
 use Rattle.rl_cli.specs.Limits.{IsFrom, IsWithinLimits}
 use Rattle.rl_cli.specs.declared.item.Item.TheVariants.{File, Number}
-use Rattle.rl_cli.specs.declared.flag.Flag.{Flag}
 use Rattle.rl_cli.specs.declared.flag.Flag.TheVariants.{Schedule, Tries, Workers, Round}
 use Rattle.rl_cli.specs.declared.order.Order.{Order}
 use Rattle.rl_cli.specs.declared.fault.CliFault.{CliFault}
@@ -44,27 +43,27 @@ as_given o found is h = subst (λ (x : Order). IsWithinLimits x) (sym is) h
 of_rounds : (words : List Text) (o : Order) → IsWrittenAs rounds words o → IsWithinLimits o
 of_rounds words o w =
     as_given o (rounds.order w.given) w.gives (
-      (number_from 0 1000000 _ (second_fits File rounds_asked w.given.positionals w.asked.positionals)).high,
-      number_or 1 1000 100 _ (record { low = omega arith; high = omega arith }) (values_fit (Tries ∷ []) Tries w.given.options w.asked.options),
+      (number_from 0 MAX_ROUNDS _ (second_fits File rounds_asked w.given.positionals w.asked.positionals)).high,
+      number_or MIN_TRIES MAX_TRIES DEFAULT_TRIES _ (record { low = omega arith; high = omega arith }) (values_fit (Tries ∷ []) Tries w.given.options w.asked.options),
     )
 
 of_drive : (words : List Text) (o : Order) → IsWrittenAs drive words o → IsWithinLimits o
 of_drive words o w =
     as_given o (drive.order w.given) w.gives
-    (number_or 1 1000 100 _ (record { low = omega arith; high = omega arith }) (values_fit (Schedule ∷ Tries ∷ []) Tries w.given.options w.asked.options))
+    (number_or MIN_TRIES MAX_TRIES DEFAULT_TRIES _ (record { low = omega arith; high = omega arith }) (values_fit (Schedule ∷ Tries ∷ []) Tries w.given.options w.asked.options))
 
 of_run : (words : List Text) (o : Order) → IsWrittenAs run words o → IsWithinLimits o
 of_run words o w =
     let flags = Tries ∷ Workers ∷ Round ∷ [] in
     as_given o (run.order w.given) w.gives (
-      number_or 1 1000 100 _ (record { low = omega arith; high = omega arith }) (values_fit flags Tries w.given.options w.asked.options),
-      number_if 1 320 _ (values_fit flags Workers w.given.options w.asked.options),
-      number_or 1 4096 1024 _ (record { low = omega arith; high = omega arith }) (values_fit flags Round w.given.options w.asked.options),
+      number_or MIN_TRIES MAX_TRIES DEFAULT_TRIES _ (record { low = omega arith; high = omega arith }) (values_fit flags Tries w.given.options w.asked.options),
+      number_if 1 MAX_WORKERS _ (values_fit flags Workers w.given.options w.asked.options),
+      number_or MIN_ROUND MAX_ROUND DEFAULT_ROUND _ (record { low = omega arith; high = omega arith }) (values_fit flags Round w.given.options w.asked.options),
     )
 
 of_make : (words : List Text) (o : Order) → IsWrittenAs make words o → IsWithinLimits o
 of_make words o w =
-    as_given o (make.order w.given) w.gives (number_from 1 32 _ (first_fits stations_asked w.given.positionals w.asked.positionals))
+    as_given o (make.order w.given) w.gives (number_from 1 MAX_MAKE _ (first_fits stations_asked w.given.positionals w.asked.positionals))
 
 within_limits : (words : List Text) (o : Order) → IsWritten words o → IsWithinLimits o
 unfolding IsWritten

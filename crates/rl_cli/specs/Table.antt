@@ -1,6 +1,8 @@
 -- The table of commands: for each form of a command its name, its positionals, its options, those of them that
 -- must be there, and the order that it gives; and the table of options.
 use Rattle.std.specs.Prelude.{ℕ, List, [], ◌∷◌, slice_get, Option, option_map, unwrap_or, find, bytes_eq, codes}
+use Rattle.rl_base.specs.declared.limits.TheConstants.{MIN_TRIES, MAX_TRIES, DEFAULT_TRIES, MIN_ROUND, MAX_ROUND, DEFAULT_ROUND}
+use Rattle.rl_base.specs.declared.limits.TheConstants.{MAX_ROUNDS, MAX_WORKERS, MAX_MAKE}
 use Rattle.rl_cli.specs.Words.{Text, number}
 use Rattle.rl_cli.specs.declared.item.Item.{Item}
 use Rattle.rl_cli.specs.declared.item.Item.TheVariants.{File, Number}
@@ -19,9 +21,9 @@ name_of Round = codes "--round"
 -- what its value must be
 abbrev pub item_of : Flag → Item
 item_of Schedule = File
-item_of Tries = Number 1 1000
-item_of Workers = Number 1 320
-item_of Round = Number 1 4096
+item_of Tries = Number MIN_TRIES MAX_TRIES
+item_of Workers = Number 1 MAX_WORKERS
+item_of Round = Number MIN_ROUND MAX_ROUND
 
 -- the words after a command's name: the positionals, and each option's name with its value
 pub record Given : Type 0 where
@@ -38,13 +40,13 @@ abbrev pub count : Given → Flag → Option ℕ
 count g flag = option_map number (value g flag)
 
 abbrev pub tries_of : Given → ℕ
-tries_of g = unwrap_or (count g Tries) 100
+tries_of g = unwrap_or (count g Tries) DEFAULT_TRIES
 
 abbrev pub schedule_of : Given → Text
 schedule_of g = unwrap_or (value g Schedule) []
 
 abbrev pub round_of : Given → ℕ
-round_of g = unwrap_or (count g Round) 1024
+round_of g = unwrap_or (count g Round) DEFAULT_ROUND
 
 -- a form of a command
 pub record Form : Type 0 where
@@ -64,10 +66,10 @@ form name positionals options needs order = record {
 }
 
 abbrev pub rounds_asked : Item
-rounds_asked = Number 0 1000000
+rounds_asked = Number 0 MAX_ROUNDS
 
 abbrev pub stations_asked : Item
-stations_asked = Number 1 32
+stations_asked = Number 1 MAX_MAKE
 
 -- the table: name, positionals, options, those that must be there, and the order
 abbrev pub check : Form

@@ -1,5 +1,6 @@
 -- What a word of a command line may be: the name of a file, or a number in a range.
-use Rattle.std.specs.Prelude.{ℕ, ◌<◌, ◌^◌, nat_le, ◌==◌, Bool, false, not, ◌&&◌, List, [], ◌∷◌, Option, Some, None, is_some, unwrap_or, option_and_then, if◌then◌else◌}
+use Rattle.std.specs.Prelude.{ℕ, nat_le, ◌==◌, Bool, false, not, ◌&&◌, List, [], ◌∷◌, Option, Some, None, is_some, unwrap_or, option_and_then, if◌then◌else◌}
+use Rattle.rl_base.specs.Numbers.{IsU32}
 use Rattle.rl_text.specs.Number.{number_of}
 use Rattle.rl_cli.specs.declared.item.Item.{Item}
 use Rattle.rl_cli.specs.declared.item.Item.TheVariants.{File, Number}
@@ -30,4 +31,4 @@ fits (Number least most) word = is_some (number_in least most word)
 
 -- the number that the word writes has 32 bits
 abbrev pub IsSmall : Text → Type 0
-IsSmall word = number word < 2 ^ 32
+IsSmall word = IsU32 (number word)

@@ -2,7 +2,7 @@ ghost use Rattle.std.specs.Prelude.{◌≡◌};
 ghost use Rattle.rl_cli.specs.Table.{name_of, item_of};
 
 use crate::item::Item;
-use crate::limits::{MOST_ROUND, MOST_TRIES, MOST_WORKERS};
+use rl_base::limits::{MAX_ROUND, MAX_TRIES, MAX_WORKERS, MIN_ROUND, MIN_TRIES};
 
 /// An option.
 #[derive(Clone, Copy, Debug, PartialEq, Eq)]
@@ -33,16 +33,16 @@ impl Flag {
         match self {
             Flag::Schedule => Item::File,
             Flag::Tries => Item::Number {
-                least: 1,
-                most: MOST_TRIES,
+                least: MIN_TRIES,
+                most: MAX_TRIES,
             },
             Flag::Workers => Item::Number {
                 least: 1,
-                most: MOST_WORKERS,
+                most: MAX_WORKERS,
             },
             Flag::Round => Item::Number {
-                least: 1,
-                most: MOST_ROUND,
+                least: MIN_ROUND,
+                most: MAX_ROUND,
             },
         }
     }

@@ -8,7 +8,6 @@
 mod fault;
 mod flag;
 mod item;
-pub mod limits;
 mod matches;
 mod order;
 mod orders;

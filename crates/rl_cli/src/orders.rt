@@ -5,11 +5,11 @@ ghost use Rattle.rl_cli.specs.Orders.{Answers, order_after, given_in, or_else, i
 use crate::fault::CliFault;
 use crate::flag::Flag;
 use crate::item::Item;
-use crate::limits::{MOST_MADE, MOST_ROUNDS, USUAL_ROUND, USUAL_TRIES};
 use crate::matches::{matches_of, needed_number_at, number_at, text_at, texts_of};
 use crate::order::Order;
 use crate::written::is_written;
 use rl_base::Text;
+use rl_base::limits::{DEFAULT_ROUND, DEFAULT_TRIES, MAX_MAKE, MAX_ROUNDS};
 use std::alloc::Global;
 
 fn read_net(alloc: Global, words: &[Text]) -> Result<Text, CliFault>
@@ -70,7 +70,7 @@ fn read_rounds(alloc: Global, words: &[Text]) -> Result<Order, CliFault>
     )?;
     let net = text_at(alloc, &matches, "NET")?;
     let rounds = needed_number_at(&matches, "N")?;
-    let tries = number_at(&matches, "--tries").unwrap_or(USUAL_TRIES);
+    let tries = number_at(&matches, "--tries").unwrap_or(DEFAULT_TRIES);
     Ok(Order::Rounds { net, rounds, tries })
 }
 
@@ -88,7 +88,7 @@ fn read_drive(alloc: Global, words: &[Text]) -> Result<Order, CliFault>
     )?;
     let net = text_at(alloc, &matches, "NET")?;
     let schedule = text_at(alloc, &matches, "-s")?;
-    let tries = number_at(&matches, "--tries").unwrap_or(USUAL_TRIES);
+    let tries = number_at(&matches, "--tries").unwrap_or(DEFAULT_TRIES);
     Ok(Order::Drive {
         net,
         schedule,
@@ -102,7 +102,7 @@ fn is_for_rounds(words: &[Text]) -> bool
 {
     let rounds = Item::Number {
         least: 0,
-        most: MOST_ROUNDS,
+        most: MAX_ROUNDS,
     };
     is_written(
         [Item::File, rounds].as_slice(),
@@ -152,9 +152,9 @@ fn read_run(alloc: Global, words: &[Text]) -> Result<Order, CliFault>
         texts.as_slice(),
     )?;
     let net = text_at(alloc, &matches, "NET")?;
-    let tries = number_at(&matches, "--tries").unwrap_or(USUAL_TRIES);
+    let tries = number_at(&matches, "--tries").unwrap_or(DEFAULT_TRIES);
     let workers = number_at(&matches, "--workers");
-    let round = number_at(&matches, "--round").unwrap_or(USUAL_ROUND);
+    let round = number_at(&matches, "--round").unwrap_or(DEFAULT_ROUND);
     Ok(Order::Run {
         net,
         tries,
@@ -231,7 +231,7 @@ pub fn make_order(alloc: Global, words: &[Text]) -> Result<Order, CliFault>
 {
     let stations = Item::Number {
         least: 1,
-        most: MOST_MADE,
+        most: MAX_MAKE,
     };
     if is_written(
         [stations].as_slice(),

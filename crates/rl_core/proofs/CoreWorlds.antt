@@ -33,7 +33,7 @@ use Rattle.rl_domain.proofs.Worlds.{same_world}
 use Rattle.rl_protocol.specs.Line.{is_number, is_held_by}
 use Rattle.rl_protocol.specs.Worlds.{stands_on, is_across, steps_made, is_passage, locks, points_in}
 use Rattle.rl_safety.specs.Ranges.{IsOnRoute, locked_path, NamesWhatIsThere}
-use Rattle.rl_safety.specs.Reading.{read, holder_in, lock_in, run_in}
+use Rattle.rl_safety.specs.Reading.{read, resv_in, lock_in, run_in}
 use Rattle.rl_safety.specs.World.{world_of_core}
 use Rattle.rl_core.specs.Cores.{Core, state_of}
 use Rattle.rl_core.specs.Worlds.{spot_of, AreSpots, AreBoxStates}
@@ -167,7 +167,7 @@ module _ (net : NetworkPlan) (core : Core) (spots : List Spot) (boxes : List Box
 
   holds_core : (t s b : ℕ)
       → option_map_or (holds_at boxes t b) (arm_of net s b) false
-      ≡ option_map_or (λ x. is_held_by t (holder_in core.line (state_of core) b x)) (arm_of net s b) false
+      ≡ option_map_or (λ x. is_held_by t (resv_in core.line (state_of core) b x)) (arm_of net s b) false
   holds_core t s b =
       elim (option_cases (arm_of net s b)) [
         | inl none ↦ rw none refl

@@ -16,13 +16,13 @@ use Rattle.rl_tables.specs.Starts.{layout_of}
 use Rattle.rl_tables.specs.declared.table.Tables.{Tables}
 use Rattle.rl_tables.specs.declared.table.TrainTable.{TrainTable}
 use Rattle.rl_train.specs.declared.mind.TrainMind.{TrainMind}
-use Rattle.rl_train.specs.Mind.{is_resting}
-use Rattle.rl_protocol.specs.Minds.{at_rest}
+use Rattle.rl_train.specs.Mind.{at_rest}
+use Rattle.rl_protocol.specs.Minds.{at_rest as line_at_rest}
 use Rattle.rl_protocol.specs.TableLine.{line_of}
-use Rattle.rl_runs.specs.declared.mind.Mind.{Mind}
-use Rattle.rl_runs.specs.declared.mind.Mind.TheVariants.{Machine}
-use Rattle.rl_runs.specs.State.{CoreState}
-use Rattle.rl_runs.specs.Turn.{Drive}
+use Rattle.rl_steps.specs.declared.mind.Mind.{Mind}
+use Rattle.rl_steps.specs.declared.mind.Mind.TheVariants.{Machine}
+use Rattle.rl_steps.specs.State.{CoreState}
+use Rattle.rl_steps.specs.Turn.{Drive}
 use Rattle.rl_safety.specs.Moves.{moves_of}
 use Rattle.rl_safety.specs.Reading.{train_mind}
 use Rattle.rl_safety.specs.Reports.{fate_of, outcome_of, outcomes_of, mind_in, report_of}
@@ -34,18 +34,18 @@ module _ (tables : Tables) (t : ℕ) (x : TrainTable) (m : TrainMind) (there : s
   steps_are : (line_of tables).steps t ≡ length x.rows
   steps_are = rw there refl
 
-  pub fate_underway : is_resting x m ≡ false → Underway ≡ fate_of tables t m
-  fate_underway h = let rests : at_rest (line_of tables) t m ≡ false = rest_is tables t x m there ∙ h in rw rests refl
+  pub fate_underway : at_rest x m ≡ false → Underway ≡ fate_of tables t m
+  fate_underway h = let rests : line_at_rest (line_of tables) t m ≡ false = rest_is tables t x m there ∙ h in rw rests refl
 
-  pub fate_arrived : is_resting x m ≡ true → m.step ≡ length x.rows → Arrived ≡ fate_of tables t m
+  pub fate_arrived : at_rest x m ≡ true → m.step ≡ length x.rows → Arrived ≡ fate_of tables t m
   fate_arrived h all =
-      let rests : at_rest (line_of tables) t m ≡ true = rest_is tables t x m there ∙ h in
+      let rests : line_at_rest (line_of tables) t m ≡ true = rest_is tables t x m there ∙ h in
       let test : (m.step == length x.rows) ≡ true = eq-eqb m.step (length x.rows) all in
       rw (rests, steps_are, test) refl
 
-  pub fate_spent : is_resting x m ≡ true → (m.step ≡ length x.rows → ⊥) → Spent ≡ fate_of tables t m
+  pub fate_spent : at_rest x m ≡ true → (m.step ≡ length x.rows → ⊥) → Spent ≡ fate_of tables t m
   fate_spent h some =
-      let rests : at_rest (line_of tables) t m ≡ true = rest_is tables t x m there ∙ h in
+      let rests : line_at_rest (line_of tables) t m ≡ true = rest_is tables t x m there ∙ h in
       let test : (m.step == length x.rows) ≡ false = ne_eqb m.step (length x.rows) some in
       rw (rests, steps_are, test) refl
 

@@ -26,14 +26,14 @@ use Rattle.rl_track.specs.declared.track.TrackMind.{TrackMind}
 use Rattle.rl_track.specs.declared.machine.MachineMind.{MachineMind}
 use Rattle.rl_track.specs.Track.{IsTrackMind, track_step, track_target}
 use Rattle.rl_track.specs.Machine.{machine_step, machine_target}
-use Rattle.rl_runs.specs.declared.mind.Mind.{Mind}
-use Rattle.rl_runs.specs.declared.mind.Mind.TheVariants.{Train, Track, Box, Machine}
-use Rattle.rl_runs.specs.Numbers.{node_at}
-use Rattle.rl_runs.specs.Sound.{IsSound, IsMindOf}
-use Rattle.rl_runs.specs.Step.{node_step, as_mind, target_of}
-use Rattle.rl_runs.specs.State.{CoreState}
-use Rattle.rl_runs.proofs.Numbering.{node_at-some}
-use Rattle.rl_runs.proofs.Acts.{train_looks, train_acts, track_looks, track_acts, box_looks, box_acts, machine_looks, machine_acts}
+use Rattle.rl_steps.specs.declared.mind.Mind.{Mind}
+use Rattle.rl_steps.specs.declared.mind.Mind.TheVariants.{Train, Track, Box, Machine}
+use Rattle.rl_steps.specs.Numbers.{node_at}
+use Rattle.rl_steps.specs.Sound.{IsSound, IsMindOf}
+use Rattle.rl_steps.specs.Step.{node_step, as_mind, target_of}
+use Rattle.rl_steps.specs.State.{CoreState}
+use Rattle.rl_steps.proofs.Numbering.{node_at-some}
+use Rattle.rl_steps.proofs.FromCalls.{train_looks, train_acts, track_looks, track_acts, box_looks, box_acts, machine_looks, machine_acts}
 use Rattle.rl_core.specs.Cores.{Core, state_of}
 use Rattle.rl_core.specs.Looks.{Sees}
 

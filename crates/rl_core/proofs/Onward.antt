@@ -7,12 +7,12 @@ use Rattle.std.proofs.lemmas.List.{get_or-set_same, get_or-set_other}
 use Rattle.rl_base.specs.Layout.{node_count}
 use Rattle.rl_words.specs.Stamps.{payload_in}
 use Rattle.rl_tables.specs.Starts.{layout_of}
-use Rattle.rl_runs.specs.declared.mind.Mind.{Mind}
-use Rattle.rl_runs.specs.declared.mind.Mind.TheVariants.{Machine}
-use Rattle.rl_runs.specs.Step.{node_step}
-use Rattle.rl_runs.specs.State.{after, mind_after, put}
-use Rattle.rl_runs.specs.Run.{Fits}
-use Rattle.rl_runs.specs.Turn.{Drive}
+use Rattle.rl_steps.specs.declared.mind.Mind.{Mind}
+use Rattle.rl_steps.specs.declared.mind.Mind.TheVariants.{Machine}
+use Rattle.rl_steps.specs.Step.{node_step}
+use Rattle.rl_steps.specs.State.{after, mind_after, put}
+use Rattle.rl_steps.specs.Run.{Fits}
+use Rattle.rl_steps.specs.Turn.{Drive}
 use Rattle.rl_core.specs.Cores.{Core, state_of, LeadsTo, HasSizes}
 use Rattle.rl_core.specs.Made.{stamp_of, event_in, made}
 

@@ -9,12 +9,12 @@ use Rattle.rl_words.specs.Stamps.{payload_in}
 use Rattle.rl_tables.specs.declared.table.Tables.{Tables}
 use Rattle.rl_tables.specs.Kept.{IsLine}
 use Rattle.rl_tables.specs.Starts.{layout_of}
-use Rattle.rl_runs.specs.declared.mind.Mind.{Mind}
-use Rattle.rl_runs.specs.Step.{node_step}
-use Rattle.rl_runs.specs.State.{put}
-use Rattle.rl_runs.specs.Run.{IsRun, state}
-use Rattle.rl_runs.specs.Sound.{IsSound}
-use Rattle.rl_runs.specs.Turn.{next_place}
+use Rattle.rl_steps.specs.declared.mind.Mind.{Mind}
+use Rattle.rl_steps.specs.Step.{node_step}
+use Rattle.rl_steps.specs.State.{put}
+use Rattle.rl_steps.specs.Run.{IsRun, state}
+use Rattle.rl_steps.specs.Sound.{IsSound}
+use Rattle.rl_steps.specs.Turn.{next_place}
 use Rattle.rl_core.specs.Cores.{Core, state_of, IsReached}
 use Rattle.rl_core.specs.Made.{event_in, made, advanced}
 use Rattle.rl_core.proofs.Onward.{leads_on}

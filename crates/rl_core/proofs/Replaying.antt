@@ -42,20 +42,20 @@ use Rattle.rl_words.specs.Stamps.{payload_in}
 use Rattle.rl_record.specs.declared.event.Event.{Event}
 use Rattle.rl_tables.specs.declared.table.Tables.{Tables}
 use Rattle.rl_tables.specs.Starts.{layout_of}
-use Rattle.rl_runs.specs.declared.mind.Mind.{Mind}
-use Rattle.rl_runs.specs.Numbers.{node_at}
-use Rattle.rl_runs.specs.Step.{node_step}
-use Rattle.rl_runs.specs.State.{event_at, next_stamp}
-use Rattle.rl_runs.specs.Run.{Fits, IsRun, state}
-use Rattle.rl_runs.specs.Turn.{Drive}
-use Rattle.rl_runs.proofs.Options.{from_map, from_then}
+use Rattle.rl_steps.specs.declared.mind.Mind.{Mind}
+use Rattle.rl_steps.specs.Numbers.{node_at}
+use Rattle.rl_steps.specs.Step.{node_step}
+use Rattle.rl_steps.specs.State.{event_at, next_stamp}
+use Rattle.rl_steps.specs.Run.{Fits, IsRun, state}
+use Rattle.rl_steps.specs.Turn.{Drive}
+use Rattle.rl_steps.proofs.Options.{from_map, from_then}
 use Rattle.rl_core.specs.Cores.{Core, state_of, LeadsTo, HasSizes}
 use Rattle.rl_core.specs.Made.{made}
 use Rattle.rl_core.specs.Redoing.{Makes}
 use Rattle.rl_core.specs.Replays.{replayed, before, IsFirstMisfit}
 use Rattle.rl_core.proofs.Started.{past}
 use Rattle.rl_core.proofs.Onward.{fits_state, leads_on}
-use Rattle.rl_runs.proofs.Acting.{step_node}
+use Rattle.rl_steps.proofs.Acting.{step_node}
 
 -- an event fits exactly where its node makes it
 step_within : (core : Core) (n w payload : ℕ) (mind : Mind) (r : ℕ × Mind) → node_step core.line n mind w payload ≡ Some r

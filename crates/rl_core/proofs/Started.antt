@@ -30,12 +30,12 @@ use Rattle.rl_base.specs.declared.layout.Layout.{Layout}
 use Rattle.rl_base.specs.Layout.{node_count, word_count}
 use Rattle.rl_tables.specs.declared.table.Tables.{Tables}
 use Rattle.rl_tables.specs.Starts.{layout_of}
-use Rattle.rl_runs.specs.declared.mind.Mind.{Mind}
-use Rattle.rl_runs.specs.declared.mind.Mind.TheVariants.{Machine}
-use Rattle.rl_runs.specs.Numbers.{node_at}
-use Rattle.rl_runs.specs.State.{start_mind, start_words}
-use Rattle.rl_runs.specs.Turn.{start_drive}
-use Rattle.rl_runs.proofs.Starts.{start_words-length}
+use Rattle.rl_steps.specs.declared.mind.Mind.{Mind}
+use Rattle.rl_steps.specs.declared.mind.Mind.TheVariants.{Machine}
+use Rattle.rl_steps.specs.Numbers.{node_at}
+use Rattle.rl_steps.specs.State.{start_mind, start_words}
+use Rattle.rl_steps.specs.Turn.{start_drive}
+use Rattle.rl_steps.proofs.Starts.{start_words-length}
 use Rattle.rl_core.specs.Cores.{Core, LeadsTo, HasSizes}
 use Rattle.rl_core.specs.Starts.{AreStartMinds}
 

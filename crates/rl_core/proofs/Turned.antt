@@ -10,11 +10,11 @@ use Rattle.rl_record.specs.declared.event.Event.{Event}
 use Rattle.rl_record.specs.declared.event.Turn.{Turn}
 use Rattle.rl_tables.specs.declared.table.Tables.{Tables}
 use Rattle.rl_tables.specs.Starts.{layout_of}
-use Rattle.rl_runs.specs.declared.mind.Mind.{Mind}
-use Rattle.rl_runs.specs.Step.{is_ready}
-use Rattle.rl_runs.specs.State.{put}
-use Rattle.rl_runs.specs.Turn.{Drive, turn_of, answer_of, events_of_target, answer_of_target, target_in, scanned, next_place}
-use Rattle.rl_runs.proofs.Options.{get_set_same, get_set_other}
+use Rattle.rl_steps.specs.declared.mind.Mind.{Mind}
+use Rattle.rl_steps.specs.Step.{is_ready}
+use Rattle.rl_steps.specs.State.{put}
+use Rattle.rl_steps.specs.Turn.{Drive, turn_of, answer_of, events_of_target, answer_of_target, target_in, scanned, next_place}
+use Rattle.rl_steps.proofs.Options.{get_set_same, get_set_other}
 use Rattle.rl_core.specs.declared.look.Glance.{Glance}
 use Rattle.rl_core.specs.declared.look.Glance.TheVariants as glances
 use Rattle.rl_core.specs.declared.look.Look.{Look}

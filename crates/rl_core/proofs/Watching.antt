@@ -18,11 +18,11 @@ use Rattle.rl_box.specs.declared.mind.Work.{Work}
 use Rattle.rl_box.specs.declared.mind.Work.TheVariants.{Ready, Serve, Say}
 use Rattle.rl_box.specs.Glance.{may_step}
 use Rattle.rl_box.specs.Steps.{box_step}
-use Rattle.rl_runs.specs.declared.mind.Mind.{Mind}
-use Rattle.rl_runs.specs.declared.mind.Mind.TheVariants.{Train, Track, Box, Machine}
-use Rattle.rl_runs.specs.State.{CoreState}
-use Rattle.rl_runs.specs.Turn.{next_place}
-use Rattle.rl_runs.specs.Step.{is_ready, has_nothing}
+use Rattle.rl_steps.specs.declared.mind.Mind.{Mind}
+use Rattle.rl_steps.specs.declared.mind.Mind.TheVariants.{Train, Track, Box, Machine}
+use Rattle.rl_steps.specs.State.{CoreState}
+use Rattle.rl_steps.specs.Turn.{next_place}
+use Rattle.rl_steps.specs.Step.{is_ready, has_nothing}
 use Rattle.rl_core.specs.declared.look.Glance.TheVariants as glances
 use Rattle.rl_core.specs.declared.look.Look.{Look}
 use Rattle.rl_core.specs.declared.look.Look.TheVariants.{Rests, Idles}

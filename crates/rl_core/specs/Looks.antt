@@ -4,13 +4,13 @@ use Rattle.rl_base.specs.declared.layout.NodeKind.TheVariants as nodes
 use Rattle.rl_words.specs.Stamps.{payload_in}
 use Rattle.rl_tables.specs.declared.table.Tables.{Tables}
 use Rattle.rl_tables.specs.Starts.{layout_of}
-use Rattle.rl_runs.specs.declared.mind.Mind.TheVariants as minds
-use Rattle.rl_runs.specs.Numbers.{node_at}
+use Rattle.rl_steps.specs.declared.mind.Mind.TheVariants as minds
+use Rattle.rl_steps.specs.Numbers.{node_at}
 use Rattle.rl_record.specs.declared.event.Turn.{Turn}
 use Rattle.rl_record.specs.declared.event.Turn.TheVariants as turns
-use Rattle.rl_runs.specs.Step.{node_step, target_of, is_ready}
-use Rattle.rl_runs.specs.State.{CoreState}
-use Rattle.rl_runs.specs.Turn.{next_place}
+use Rattle.rl_steps.specs.Step.{node_step, target_of, is_ready}
+use Rattle.rl_steps.specs.State.{CoreState}
+use Rattle.rl_steps.specs.Turn.{next_place}
 use Rattle.rl_core.specs.Cores.{Core, state_of}
 use Rattle.rl_core.specs.Made.{event_in, made, advanced}
 use Rattle.rl_core.specs.declared.look.Who.{Who}

@@ -2,9 +2,9 @@
 use Rattle.std.specs.Prelude.{ℕ, ◌+◌, slice_set, slice_index_or}
 use Rattle.rl_words.specs.Stamps.{stamped}
 use Rattle.rl_record.specs.declared.event.Event.{Event}
-use Rattle.rl_runs.specs.declared.mind.Mind.{Mind}
-use Rattle.rl_runs.specs.State.{event_at, next_stamp}
-use Rattle.rl_runs.specs.Turn.{next_place}
+use Rattle.rl_steps.specs.declared.mind.Mind.{Mind}
+use Rattle.rl_steps.specs.State.{event_at, next_stamp}
+use Rattle.rl_steps.specs.Turn.{next_place}
 use Rattle.rl_core.specs.Cores.{Core}
 
 -- the stamp that node n gives to a word that was this

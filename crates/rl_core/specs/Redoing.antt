@@ -4,8 +4,8 @@ use Rattle.rl_base.specs.Layout.{node_count, word_count}
 use Rattle.rl_words.specs.Stamps.{payload_in}
 use Rattle.rl_record.specs.declared.event.Event.{Event}
 use Rattle.rl_tables.specs.Starts.{layout_of}
-use Rattle.rl_runs.specs.declared.mind.Mind.{Mind}
-use Rattle.rl_runs.specs.Step.{node_step}
+use Rattle.rl_steps.specs.declared.mind.Mind.{Mind}
+use Rattle.rl_steps.specs.Step.{node_step}
 use Rattle.rl_core.specs.Cores.{Core, state_of}
 use Rattle.rl_core.specs.Made.{event_in}
 

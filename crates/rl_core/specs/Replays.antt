@@ -2,8 +2,8 @@
 use Rattle.std.specs.Prelude.{◌≡◌, ℕ, List, reverse, take, slice_get, Some}
 use Rattle.rl_record.specs.declared.event.Event.{Event}
 use Rattle.rl_tables.specs.declared.table.Tables.{Tables}
-use Rattle.rl_runs.specs.Run.{Fits, IsRun, state}
-use Rattle.rl_runs.specs.Turn.{Drive}
+use Rattle.rl_steps.specs.Run.{Fits, IsRun, state}
+use Rattle.rl_steps.specs.Turn.{Drive}
 
 -- the events as a run, which has the newest first, with each box at its first scan place
 abbrev pub replayed : List Event → Drive

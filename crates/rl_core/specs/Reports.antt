@@ -6,9 +6,9 @@ use Rattle.rl_model.specs.Reports.{made_in, refused_in}
 use Rattle.rl_model.specs.declared.report.Outcome.{Outcome}
 use Rattle.rl_record.specs.declared.event.Event.{Event}
 use Rattle.rl_tables.specs.declared.table.Tables.{Tables}
-use Rattle.rl_runs.specs.declared.mind.Mind.{Mind}
-use Rattle.rl_runs.specs.declared.mind.Mind.TheVariants.{Machine}
-use Rattle.rl_runs.specs.Run.{state}
+use Rattle.rl_steps.specs.declared.mind.Mind.{Mind}
+use Rattle.rl_steps.specs.declared.mind.Mind.TheVariants.{Machine}
+use Rattle.rl_steps.specs.Run.{state}
 use Rattle.rl_safety.specs.Reading.{train_mind}
 use Rattle.rl_safety.specs.Reports.{outcome_of}
 use Rattle.rl_core.specs.declared.reports.Count.{Count}

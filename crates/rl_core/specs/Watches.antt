@@ -6,10 +6,10 @@ use Rattle.rl_base.specs.Layout.{node_count, word_count}
 use Rattle.rl_words.specs.Stamps.{payload_in}
 use Rattle.rl_tables.specs.declared.table.Tables.{Tables}
 use Rattle.rl_tables.specs.Starts.{layout_of}
-use Rattle.rl_runs.specs.declared.mind.Mind.{Mind}
-use Rattle.rl_runs.specs.declared.mind.Mind.TheVariants.{Box, Machine}
-use Rattle.rl_runs.specs.Numbers.{node_at}
-use Rattle.rl_runs.specs.Step.{node_step, target_of, is_ready}
+use Rattle.rl_steps.specs.declared.mind.Mind.{Mind}
+use Rattle.rl_steps.specs.declared.mind.Mind.TheVariants.{Box, Machine}
+use Rattle.rl_steps.specs.Numbers.{node_at}
+use Rattle.rl_steps.specs.Step.{node_step, target_of, is_ready}
 use Rattle.rl_core.specs.declared.watches.Watch.{Watch}
 use Rattle.rl_core.specs.declared.watches.Watch.TheVariants.{At, Scans, Rarely}
 use Rattle.rl_core.specs.declared.watches.Rare.TheVariants.{Closely, Rests, Awaits}

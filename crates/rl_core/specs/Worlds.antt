@@ -8,7 +8,7 @@ use Rattle.rl_domain.specs.declared.parts.Spot.{Spot}
 use Rattle.rl_domain.specs.declared.states.BoxState.{BoxState}
 use Rattle.rl_domain.specs.States.{is_lock, holder_at}
 use Rattle.rl_protocol.specs.Worlds.{locks, points_in}
-use Rattle.rl_safety.specs.Reading.{holder_in, lock_in, run_in}
+use Rattle.rl_safety.specs.Reading.{resv_in, lock_in, run_in}
 use Rattle.rl_core.specs.Cores.{Core, state_of}
 
 -- where a train with the run word is
@@ -27,7 +27,7 @@ pub record IsBoxState (net : NetworkPlan) (core : Core) (b : ℕ) (x : BoxState)
   pub points : x.points ≡ points_in (kind_of net b) (lock_in core.line (state_of core) b)
   pub lock : (t from to : ℕ)
       → is_lock t from to x.lock ≡ locks (segment_at net b) (lock_in core.line (state_of core) b) t from to
-  pub holders : (i : ℕ) → i < 4 → holder_at x i ≡ holder_in core.line (state_of core) b i
+  pub holders : (i : ℕ) → i < 4 → holder_at x i ≡ resv_in core.line (state_of core) b i
 
 -- the states of the first boxes
 pub record AreBoxStates (net : NetworkPlan) (core : Core) (count : ℕ) (boxes : List BoxState) : Type 0 where

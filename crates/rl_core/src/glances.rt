@@ -2,9 +2,9 @@ ghost use Rattle.std.specs.Prelude.{◌≡◌, ◌<◌, ◌≤◌, ◌^◌, true
 ghost use Rattle.rl_base.specs.declared.layout.NodeKind.TheVariants as nodes;
 ghost use Rattle.rl_base.specs.Layout.{node_count};
 ghost use Rattle.rl_tables.specs.Starts.{layout_of};
-ghost use Rattle.rl_runs.specs.Numbers.{node_at};
-ghost use Rattle.rl_runs.specs.Step.{is_ready};
-ghost use Rattle.rl_runs.specs.Turn.{next_place};
+ghost use Rattle.rl_steps.specs.Numbers.{node_at};
+ghost use Rattle.rl_steps.specs.Step.{is_ready};
+ghost use Rattle.rl_steps.specs.Turn.{next_place};
 ghost use Rattle.rl_core.specs.Cores.{state_of};
 ghost use Rattle.rl_core.specs.Looks.{IsGlance};
 ghost use Rattle.rl_core.specs.Watches.{IsWatch, waits_of};
@@ -14,7 +14,7 @@ use crate::look::Glance;
 use crate::watches::{Rare, Watch};
 use rl_base::{Arm, BoxId, NodeNo, TrainId};
 use rl_box::{BoxMind, Work, box_glances};
-use rl_runs::numbered;
+use rl_steps::numbered;
 use rl_words::{Path, payload_of};
 
 /// A ready box, which waits for its points or doesn't. For which path it waits is nothing that a glance sees.

@@ -20,4 +20,4 @@ pub use cores::Core;
 pub use moves::move_of;
 pub use replays::{ReplayFault, replay};
 pub use reports::report_of;
-pub use rl_runs::Mind;
+pub use rl_steps::Mind;

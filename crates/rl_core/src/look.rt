@@ -1,6 +1,6 @@
 use rl_base::{BoxId, TrainId, WordNo};
 use rl_box::BoxMind;
-use rl_runs::Mind;
+use rl_steps::Mind;
 use rl_track::{MachineMind, TrackMind};
 use rl_train::TrainMind;
 

@@ -2,13 +2,14 @@ ghost use Rattle.std.specs.Prelude.{◌≡◌, ◌<◌};
 ghost use Rattle.rl_base.specs.Layout.{word_count};
 ghost use Rattle.rl_tables.specs.Kept.{line_kind};
 ghost use Rattle.rl_tables.specs.Starts.{layout_of};
+ghost use Rattle.rl_protocol.specs.TableLine.{row_at};
 ghost use Rattle.rl_safety.specs.Moves.{arm_move, resv_move, lock_on, lock_move, denial, mail_move, run_move, move_of};
-ghost use Rattle.rl_safety.specs.Railway.{row_at, segment_of};
+ghost use Rattle.rl_safety.specs.Railway.{segment_of};
 
 use rl_base::{Arm, BoxId, Kind, SegId, TrainId, Verb, WordKind, side_of};
 use rl_model::Move;
 use rl_record::Event;
-use rl_runs::numbered;
+use rl_steps::numbered;
 use rl_tables::{Line, StepRow};
 use rl_words::{Letter, LockWord, MailWord, Path, ResvWord, RunWord, payload_of};
 

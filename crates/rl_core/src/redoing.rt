@@ -2,10 +2,10 @@ ghost use Rattle.std.specs.Prelude.{◌≡◌, ◌↔◌, ◌<◌, ◌^◌, ◌�
 ghost use Rattle.rl_base.specs.declared.layout.NodeKind.TheVariants as nodes;
 ghost use Rattle.rl_base.specs.Layout.{node_count, word_count};
 ghost use Rattle.rl_tables.specs.Starts.{layout_of};
-ghost use Rattle.rl_runs.specs.Numbers.{node_at};
-ghost use Rattle.rl_runs.specs.Run.{Fits};
-ghost use Rattle.rl_runs.specs.Step.{node_step};
-ghost use Rattle.rl_runs.specs.Turn.{Drive};
+ghost use Rattle.rl_steps.specs.Numbers.{node_at};
+ghost use Rattle.rl_steps.specs.Run.{Fits};
+ghost use Rattle.rl_steps.specs.Step.{node_step};
+ghost use Rattle.rl_steps.specs.Turn.{Drive};
 ghost use Rattle.rl_core.specs.Cores.{state_of, LeadsTo};
 ghost use Rattle.rl_core.specs.Redoing.{Finds, Makes};
 
@@ -14,7 +14,7 @@ use crate::look::Who;
 use rl_base::{BoxId, NodeNo, TrainId, WordNo};
 use rl_box::BoxMind;
 use rl_record::Event;
-use rl_runs::{Mind, numbered};
+use rl_steps::{Mind, numbered};
 use rl_track::{MachineMind, TrackMind, machine_steps, track_steps};
 use rl_train::{TrainMind, train_steps, usable_tables};
 use rl_words::payload_of;

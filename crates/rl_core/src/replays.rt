@@ -1,5 +1,5 @@
 ghost use Rattle.std.specs.Prelude.{◌≡◌, ◌≢◌, ◌⊎◌, ℕ, ◌<◌, ◌≤◌, length, reverse, Ok, Err, IfOk};
-ghost use Rattle.rl_runs.specs.Run.{IsRun};
+ghost use Rattle.rl_steps.specs.Run.{IsRun};
 ghost use Rattle.rl_core.specs.Cores.{LeadsTo};
 ghost use Rattle.rl_core.specs.Replays.{replayed, IsFirstMisfit};
 ghost use Rattle.rl_core.specs.declared.replays.ReplayFault.TheVariants as faults;

@@ -4,7 +4,7 @@ ghost use Rattle.rl_base.specs.Layout.{node_count};
 ghost use Rattle.rl_model.specs.declared.moves.Move.{Move};
 ghost use Rattle.rl_record.specs.declared.event.Event.{Event};
 ghost use Rattle.rl_tables.specs.Starts.{layout_of};
-ghost use Rattle.rl_runs.specs.Run.{IsRun};
+ghost use Rattle.rl_steps.specs.Run.{IsRun};
 ghost use Rattle.rl_safety.specs.Moves.{moves_of};
 ghost use Rattle.rl_safety.specs.Reading.{train_mind};
 ghost use Rattle.rl_safety.specs.Reports.{fate_of, outcome_of, report_of};
@@ -13,7 +13,7 @@ ghost use Rattle.rl_core.specs.declared.reports.Count.{Count};
 
 use rl_base::{NoMemory, Sequence, TrainId};
 use rl_model::{Fate, Move, Moves, Outcome, Outcomes, Report};
-use rl_runs::Mind;
+use rl_steps::Mind;
 use rl_tables::Line;
 use rl_train::TrainMind;
 use std::alloc::Global;

@@ -6,7 +6,7 @@ ghost use Rattle.rl_core.specs.Starts.{AreStartMinds};
 
 use crate::watches::{Rare, Watch};
 use rl_base::{NoMemory, NodeNo};
-use rl_runs::{Mind, start_mind};
+use rl_steps::{Mind, start_mind};
 use rl_tables::Line;
 use std::alloc::Global;
 

@@ -6,8 +6,7 @@ ghost use Rattle.rl_words.specs.Resv.{arm_in};
 ghost use Rattle.rl_domain.specs.Rows.{world_of, Fits};
 ghost use Rattle.rl_domain.specs.States.{is_lock};
 ghost use Rattle.rl_protocol.specs.Worlds.{is_passage, locks, standing, moving, side_of_path, points_in};
-ghost use Rattle.rl_box.specs.Steps.{other_side};
-ghost use Rattle.rl_safety.specs.Reading.{payload_of, holder_in, lock_in, run_in};
+ghost use Rattle.rl_safety.specs.Reading.{payload_of, resv_in, lock_in, run_in};
 ghost use Rattle.rl_safety.specs.World.{world_of_core};
 ghost use Rattle.rl_tables.specs.Starts.{layout_of};
 ghost use Rattle.rl_tables.specs.Tables.{AreTablesOf};
@@ -16,6 +15,7 @@ ghost use Rattle.rl_core.specs.Worlds.{spot_of, AreSpots, IsBoxState, AreBoxStat
 
 use crate::cores::Core;
 use rl_base::{BoxId, Kind, NoMemory, Side, TrainId, WordKind, side_of};
+use rl_box::other_side;
 use rl_domain::{BoxState, BoxStates, PathLock, Points, Spot, Spots, World};
 use rl_net::Network;
 use rl_safety::worlds_of_runs;
@@ -62,15 +62,6 @@ fn side_of_path(kind: Kind, path: &Path) -> Side
     match side_of(kind, path.x, path.y) {
         Some(side) => side,
         None => Side::Left,
-    }
-}
-
-fn other_side(side: Side) -> Side
-    ensures { result ≡ other_side side }
-{
-    match side {
-        Side::Left => Side::Right,
-        Side::Right => Side::Left,
     }
 }
 
@@ -152,7 +143,7 @@ impl<'a> Core<'a> {
     /// The reservation word of the box.
     fn resv_word(&self, b: BoxId) -> ResvWord
         requires { b.0 < length self.now.line.boxes }
-        ensures { (i : ℕ) → i < 4 → arm_in result i ≡ holder_in self.now.line (state_of self.now) b.0 i }
+        ensures { (i : ℕ) → i < 4 → arm_in result i ≡ resv_in self.now.line (state_of self.now) b.0 i }
     {
         match ResvWord::unpack(self.payload(WordKind::Resv(b))) {
             Some(word) => word,

@@ -4,6 +4,7 @@ use Rattle.std.specs.Option.{option_map_or}
 use Rattle.std.proofs.lemmas.Bool.{cases_eq, eq-eqb, eqb-true, ne_eqb, and_right}
 use Rattle.std.proofs.lemmas.Bool.Decides.{nat_tests}
 use Rattle.std.proofs.lemmas.Option.{slice_get_cases, same_Some}
+use Rattle.rl_base.specs.declared.limits.TheConstants.{MAX_STEPS}
 use Rattle.rl_base.specs.declared.ids.BoxId.{BoxId}
 use Rattle.rl_base.specs.declared.ids.SegId.{SegId}
 use Rattle.rl_base.specs.declared.ids.TrainId.{TrainId}
@@ -184,7 +185,7 @@ leave_fits net old new t s fits within changes hold =
     let parts = from_parts s.0 x (rw is at hold.0) in
     leaves_standing net t.0 x parts.1.0 parts.1.1 (fits.standings t.0 x is))
 
-steps_few : (net : NetworkPlan) (t : ℕ) → IsNetwork net → steps_of net t ≤ 64
+steps_few : (net : NetworkPlan) (t : ℕ) → IsNetwork net → steps_of net t ≤ MAX_STEPS
 steps_few net t network =
     elim (slice_get_cases net.trains t).1 [
       | inl here ↦ rw here.2 (network.trains t here.0 here.2).short
@@ -192,7 +193,7 @@ steps_few net t network =
     ]
 
 pub leave_few : (net : NetworkPlan) (rows : Rows) (t : TrainId) (s : SegId) → IsNetwork net → Fits net rows → t.0 < length net.trains
-    → AllHold (guards net (world_of net rows) (Leave t s)) → made_of rows t.0 < 64
+    → AllHold (guards net (world_of net rows) (Leave t s)) → made_of rows t.0 < MAX_STEPS
 leave_few net rows t s network fits within hold =
     let here = standing_there net rows t.0 fits within in
     let x = here.0 in

@@ -1,5 +1,6 @@
 ghost use Rattle.std.specs.Prelude.{◌≡◌, ◌<◌, length, IsTrue, Some};
 ghost use Rattle.rl_base.specs.declared.ids.TrainId.{TrainId};
+ghost use Rattle.rl_base.specs.declared.limits.TheConstants.{MAX_STEPS};
 ghost use Rattle.rl_domain.specs.declared.states.PathLock.{PathLock};
 ghost use Rattle.rl_model.specs.declared.network.NetworkPlan.{NetworkPlan};
 ghost use Rattle.rl_model.specs.Network.{IsNetwork, has_end, IsTrainOf, IsSegmentOf, IsBoxOf};
@@ -70,7 +71,7 @@ impl World {
     /// Takes the tail of the train after its head, which ends its step.
     fn leave(&mut self, t: TrainId)
         requires train { t.0 < length self.old.trains }
-        requires few { made_of self.old t.0 < 64 }
+        requires few { made_of self.old t.0 < MAX_STEPS }
         ensures changed { ChangesStanding self.old self.new t.0 leaves }
     {
         let standing = self.standing(t);

@@ -1,4 +1,5 @@
 ghost use Rattle.std.specs.Prelude.{◌≡◌, ℕ, ◌<◌, ◌↔◌, ◌≢◌, IsTrue, false, true, length};
+ghost use Rattle.rl_base.specs.declared.limits.TheConstants.{MAX_STEPS};
 ghost use Rattle.rl_model.specs.Network.{has_end, can_connect, connects, steps_of, IsStep, IsTrainOf, IsSegmentOf, IsBoxOf};
 ghost use Rattle.rl_model.specs.World.{points_connect};
 ghost use Rattle.rl_model.specs.Moves.{IsFree, EachLockedPath, holds_ends};
@@ -42,7 +43,7 @@ pub(crate) fn points_connect(net: &Network, b: BoxId, s: SegId, s2: SegId, point
 fn is_step(net: &Network, t: TrainId, k: u32, b: BoxId, s: SegId, s2: SegId) -> bool
     requires there { IsTrainOf net.now t }
     requires step { k < steps_of net.now t.0 }
-    requires few { k < 64 }
+    requires few { k < MAX_STEPS }
     ensures { IsTrue result ↔ IsStep net.now t.0 k s.0 b.0 s2.0 }
 {
     let from = net.route_seg(t, k);
@@ -103,7 +104,7 @@ impl World {
         ensures { result ≡ holds_ends (world_of net.now self.now) net.now t.0 s.0 }
     {
         // What acceptance gave, for the proof.
-        let _segments = net.segments();
+        net.accepted();
         let ((low, _), (high, _)) = net.ends(s);
         self.holds(net, t, s, low) && self.holds(net, t, s, high)
     }

@@ -42,7 +42,7 @@ impl World {
         ensures { IsTrue result ↔ KeepsOnly net.now self.now t.0 s.0 b.0 }
     {
         // What acceptance gave, for the proof.
-        let _boxes = net.boxes();
+        net.accepted();
         let state = self.state(b);
         !is_lock_of(t, state.lock) && keeps_arms(net, &state, t, s, b)
     }

@@ -47,7 +47,7 @@ impl World {
     {
         // The law of the moves, and what acceptance gave, for the proof.
         safe_runs();
-        let _trains = net.trains();
+        net.accepted();
         let trains = first_standings(alloc, net)?;
         let boxes = first_states(alloc, net)?;
         Ok(World { trains, boxes })
@@ -65,8 +65,6 @@ impl World {
         ensures fits { IfOk result (Fits net.now) }
         ensures kept { IfOk result (λ w. IsKept net.now (world_of net.now w)) }
     {
-        // What acceptance gave, for the proof.
-        let _trains = net.trains();
         let trains = standings_of(alloc, net, spots, boxes)?;
         let boxes = states_of(alloc, boxes)?;
         Ok(World { trains, boxes })
@@ -91,7 +89,7 @@ impl World {
     {
         // The law of the moves, and what acceptance gave, for the proof.
         safe_runs();
-        let _trains = net.trains();
+        net.accepted();
         self.test(net, m)?;
         self.change(net, m);
         Ok(())

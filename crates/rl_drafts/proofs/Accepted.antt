@@ -2,6 +2,7 @@
 use Rattle.std.proofs.Common.{◌≡◌, ℕ, suc, ◌*◌, ◌%◌, ◌<◌, ◌≤◌, ◌≢◌, Bool, true, false, cond, not, eqb, ltb, ◌&&◌, List, length, take, slice_get, is_some, is_none, bytes_eq, unwrap_or, Option, Some, None, refl, sym, ap, ◌∙◌, subst, arith}
 use Rattle.std.proofs.lemmas.Bool.{false≢true, both_ways, not-false, ltb-false, eqb-true, eqb-false, eq-eqb, ne_eqb, lt-ltb}
 use Rattle.std.specs.Option.{option_map_or}
+use Rattle.rl_base.specs.declared.limits.TheConstants.{MAX_SEGMENTS, MAX_BOXES, MAX_TRAINS, MAX_ROUTE}
 use Rattle.rl_base.specs.declared.kind.Kind.{Kind}
 use Rattle.rl_base.specs.declared.kind.Kind.TheVariants.{Buffer, Joint, Point, Crossing}
 use Rattle.rl_base.specs.declared.kind.Side.{Side}
@@ -30,10 +31,10 @@ pub record IsRoutePlace (d : Draft) (t k : ℕ) (name : List ℕ) : Type 0 where
 
 -- the sizes, the names, the boxes and the routes are right
 pub record IsSound (d : Draft) : Type 0 where
-  pub few_segments : length d.segments ≤ 256
-  pub few_boxes : length d.boxes ≤ 128
-  pub few_trains : length d.trains ≤ 32
-  pub short_routes : (t : ℕ) (x : DraftTrain) → slice_get d.trains t ≡ Some x → length x.route ≤ 129
+  pub few_segments : length d.segments ≤ MAX_SEGMENTS
+  pub few_boxes : length d.boxes ≤ MAX_BOXES
+  pub few_trains : length d.trains ≤ MAX_TRAINS
+  pub short_routes : (t : ℕ) (x : DraftTrain) → slice_get d.trains t ≡ Some x → length x.route ≤ MAX_ROUTE
   pub segments : AreDistinct d.segments
   pub boxes : AreDistinct (box_names d)
   pub trains : AreDistinct (train_names d)
@@ -118,11 +119,11 @@ module _ (d : Draft) (a : IsAccepted d) where
 pub IsSound-from_accepted : (d : Draft) → IsAccepted d → IsSound d
 IsSound-from_accepted d a =
     record {
-      few_segments = ltb-false 256 (length d.segments) (a 5 place.Segments);
-      few_boxes = ltb-false 128 (length d.boxes) (a 5 place.Boxes);
-      few_trains = ltb-false 32 (length d.trains) (a 5 place.Trains);
-      short_routes = λ t x e. ltb-false 129 (length x.route)
-          (test_fails (λ (w : DraftTrain). ltb 129 (length w.route)) (slice_get d.trains t) x e (a 5 (place.TrainRoute t)));
+      few_segments = ltb-false MAX_SEGMENTS (length d.segments) (a 5 place.Segments);
+      few_boxes = ltb-false MAX_BOXES (length d.boxes) (a 5 place.Boxes);
+      few_trains = ltb-false MAX_TRAINS (length d.trains) (a 5 place.Trains);
+      short_routes = λ t x e. ltb-false MAX_ROUTE (length x.route)
+          (test_fails (λ (w : DraftTrain). ltb MAX_ROUTE (length w.route)) (slice_get d.trains t) x e (a 5 (place.TrainRoute t)));
       segments = AreDistinct-from_twice d.segments (λ i. a 6 (place.Segment i));
       boxes = AreDistinct-from_twice (box_names d) (λ i. a 6 (place.BoxName i));
       trains = AreDistinct-from_twice (train_names d) (λ i. a 6 (place.TrainName i));

@@ -4,6 +4,7 @@ use Rattle.std.proofs.lemmas.Bool.{false≢true, or_cases, or_left, or_right, ca
 use Rattle.std.proofs.lemmas.List.{length-map}
 use Rattle.std.proofs.lemmas.Option.{slice_get_within, same_Some}
 use Rattle.std.specs.Option.{option_map_or}
+use Rattle.rl_base.specs.declared.limits.TheConstants.{MAX_SEGMENTS, MAX_BOXES, MAX_TRAINS}
 use Rattle.rl_base.specs.declared.ids.SegId.{SegId}
 use Rattle.rl_base.specs.declared.ids.BoxId.{BoxId}
 use Rattle.rl_base.specs.declared.kind.Kind.{Kind}
@@ -292,9 +293,9 @@ module _ (d : Draft) (sound : IsSound d) where
   IsNetwork-sound : HasNames d → IsNetwork (network_of d)
   IsNetwork-sound names =
       record {
-        few_segments = subst (λ (n : ℕ). n ≤ 256) (sym (length-map d.segments (segment_of d))) sound.few_segments;
-        few_boxes = subst (λ (n : ℕ). n ≤ 128) (sym (length-map d.boxes (box_of d))) sound.few_boxes;
-        few_trains = subst (λ (n : ℕ). n ≤ 32) (sym (length-map d.trains (train_of d))) sound.few_trains;
+        few_segments = subst (λ (n : ℕ). n ≤ MAX_SEGMENTS) (sym (length-map d.segments (segment_of d))) sound.few_segments;
+        few_boxes = subst (λ (n : ℕ). n ≤ MAX_BOXES) (sym (length-map d.boxes (box_of d))) sound.few_boxes;
+        few_trains = subst (λ (n : ℕ). n ≤ MAX_TRAINS) (sym (length-map d.trains (train_of d))) sound.few_trains;
         segments = segments_right names;
         boxes = boxes_right names;
         trains = trains_right names;

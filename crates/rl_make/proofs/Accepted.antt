@@ -11,7 +11,7 @@ use Rattle.rl_base.specs.declared.draft.DraftBox.{DraftBox}
 use Rattle.rl_base.specs.declared.draft.DraftTrain.{DraftTrain}
 use Rattle.rl_drafts.specs.Drafts.{box_names, ends_of}
 use Rattle.rl_drafts.specs.Refusals.{on_box, on_train, on_name, is_among, is_twice, is_point, starts_below, is_start, IsAccepted}
-use Rattle.rl_make.specs.Ring.{upper, lower, middle, line, entry, exit, joint, before, segments_of, point_box, joint_box, boxes_of, platform, train_of, each}
+use Rattle.rl_make.specs.Ring.{upper, lower, middle, line, entry, exit, joint, station_before, segments_of, point_box, joint_box, boxes_of, platform, train_of, each}
 use Rattle.rl_make.specs.Ring.{ring}
 use Rattle.rl_make.proofs.Distinct.{segments_once, boxes_once, trains_once}
 use Rattle.rl_make.proofs.Each.{any-each-none, none_at, map-each, length-each, fresh_all, each_fresh, twice-fresh}
@@ -20,10 +20,7 @@ use Rattle.rl_make.proofs.Found.{upper_is, lower_is, middle_is, line_is}
 use Rattle.rl_make.proofs.Names.{differs}
 use Rattle.rl_make.proofs.Routes.{length-route, route_named, misfits, route_fits}
 
--- none of two, three or four items passes
-none_of_two : {A : Type 0} (p : A → Bool) (x y : A) → p x ≡ false → p y ≡ false → list_any p (x ∷ y ∷ []) ≡ false
-none_of_two p x y a b = rw (a, b)
-
+-- none of three or four items passes
 none_of_three : {A : Type 0} (p : A → Bool) (x y z : A) → p x ≡ false → p y ≡ false → p z ≡ false → list_any p (x ∷ y ∷ z ∷ []) ≡ false
 none_of_three p x y z a b c = rw (a, b, c)
 
@@ -53,8 +50,10 @@ arms_named n i j =
     (λ h l.
     let there = before_within n h l in
     none_of_three (λ (x : DraftBox). on_name x.arms j (λ name. not (is_among (each segments_of n) name)))
-    (point_box (entry h) (line (before n h)) (upper h) (lower h)) (point_box (exit h) (middle h) (upper h) (lower h)) (joint_box (joint h) (middle h) (line h))
-    (three_there (each segments_of n) (line (before n h)) (upper h) (lower h) j (line_is n (before n h) there) (upper_is n h l) (lower_is n h l))
+    (point_box (entry h) (line (station_before n h)) (upper h) (lower h))
+    (point_box (exit h) (middle h) (upper h) (lower h)) (joint_box (joint h) (middle h) (line h))
+    (three_there (each segments_of n) (line (station_before n h)) (upper h) (lower h) j
+    (line_is n (station_before n h) there) (upper_is n h l) (lower_is n h l))
     (three_there (each segments_of n) (middle h) (upper h) (lower h) j (middle_is n h l) (upper_is n h l) (lower_is n h l))
     (two_there (each segments_of n) (middle h) (line h) j (middle_is n h l) (line_is n h l))) i
 
@@ -62,7 +61,7 @@ arms_named n i j =
 arms_apart : (n i j : ℕ) → on_box (ring n) i (λ x. is_twice x.arms j) ≡ false
 arms_apart n i j = no_box (λ x. is_twice x.arms j) n (λ h l.
     rw (
-      twice-fresh (line (before n h) ∷ upper h ∷ lower h ∷ []) (refl, (refl, (refl, tt))) j,
+      twice-fresh (line (station_before n h) ∷ upper h ∷ lower h ∷ []) (refl, (refl, (refl, tt))) j,
       twice-fresh (middle h ∷ upper h ∷ lower h ∷ []) (refl, (refl, (refl, tt))) j,
       twice-fresh (middle h ∷ line h ∷ []) (refl, (refl, tt)) j,
     )) i
@@ -141,11 +140,4 @@ accepted n few r (place.TrainRoute i) = neither_way (eqb r 5) _ _ (routes_short 
 accepted n few r (place.RouteItem i j) =
     neither_way (eqb r 13) _ _ (routes_named n i j)
     (neither_way (eqb r 14) _ _ (routes_fit n i j few) (and_last (eqb r 15) _ (and_last (eqb j 0) _ (starts_apart n i few))))
-accepted n few r place.None = refl
-accepted n few r place.Top = refl
-accepted n few r place.Format = refl
-accepted n few r (place.BoxItem i) = refl
-accepted n few r (place.BoxKind i) = refl
-accepted n few r (place.TrainItem i) = refl
-accepted n few r (place.ScheduleLine i) = refl
-accepted n few r (place.ReportLine i) = refl
+accepted n few r _ = refl

@@ -4,7 +4,7 @@ use Rattle.std.proofs.Common.{◌∙◌, arith}
 use Rattle.std.proofs.lemmas.Bool.Decides.{nat_tests}
 use Rattle.rl_base.specs.declared.draft.DraftBox.{DraftBox}
 use Rattle.rl_drafts.specs.Drafts.{end_at, ends_in_box, ends_from, ends_of}
-use Rattle.rl_make.specs.Ring.{upper, lower, middle, line, before, after, boxes_of, each, ring}
+use Rattle.rl_make.specs.Ring.{upper, lower, middle, line, station_before, station_after, boxes_of, each, ring}
 use Rattle.rl_make.proofs.Names.{same_number}
 
 -- how many of the arms have the name, and how many arms of the boxes do
@@ -79,7 +79,7 @@ two_ends n j k name l m each_has =
     ∙ total-plus (one_at j) (one_at k) n
     ∙ omega (arith, total-one j n l, total-one k n m)
 
-pub after_within : (n i : ℕ) → i < n → after n i < n
+pub after_within : (n i : ℕ) → i < n → station_after n i < n
 after_within n i l = at (eqb (i + 1) n) refl
   where
     at : (b : Bool) → eqb (i + 1) n ≡ b → cond b 0 (i + 1) < n
@@ -87,7 +87,7 @@ after_within n i l = at (eqb (i + 1) n) refl
     at false e = grind (arith, nat_tests)
 
 -- h is after i where i is before h
-before_is : (n i h : ℕ) → i < n → h < n → eqb (before n h) i ≡ eqb h (after n i)
+before_is : (n i h : ℕ) → i < n → h < n → eqb (station_before n h) i ≡ eqb h (station_after n i)
 before_is n i h l m = at (eqb h 0) refl (eqb (i + 1) n) refl
   where
     at : (b : Bool) → eqb h 0 ≡ b → (c : Bool) → eqb (i + 1) n ≡ c → eqb (cond b (n - 1) (h - 1)) i ≡ eqb h (cond c 0 (i + 1))
@@ -96,7 +96,7 @@ before_is n i h l m = at (eqb h 0) refl (eqb (i + 1) n) refl
     at false e true f = grind (arith, nat_tests)
     at false e false f = grind (arith, nat_tests)
 
-pub before_within : (n h : ℕ) → h < n → before n h < n
+pub before_within : (n h : ℕ) → h < n → station_before n h < n
 before_within n h l = at (eqb h 0) refl
   where
     at : (b : Bool) → eqb h 0 ≡ b → cond b (n - 1) (h - 1) < n
@@ -104,10 +104,10 @@ before_within n h l = at (eqb h 0) refl
     at false e = omega arith
 
 -- before what is after h is h
-pub before_after : (n h : ℕ) → h < n → before n (after n h) ≡ h
+pub before_after : (n h : ℕ) → h < n → station_before n (station_after n h) ≡ h
 before_after n h l = at (eqb (h + 1) n) refl
   where
-    at : (b : Bool) → eqb (h + 1) n ≡ b → before n (cond b 0 (h + 1)) ≡ h
+    at : (b : Bool) → eqb (h + 1) n ≡ b → station_before n (cond b 0 (h + 1)) ≡ h
     at true e = grind (arith, nat_tests)
     at false e = let later : eqb (h + 1) 0 ≡ false = grind (arith, nat_tests) in rw later (omega arith)
 
@@ -125,6 +125,6 @@ middle_ends n i few l =
 
 pub line_ends : (n i : ℕ) → n ≤ 32 → i < n → length (ends_of (ring n) (line i)) ≡ 2
 line_ends n i few l =
-    two_ends n (after n i) i (line i) (after_within n i l) l (λ h m.
-    rw (same_number (before n h) i (omega (arith, before_within n h m)) (omega arith), same_number h i (omega arith) (omega arith), before_is n i h l m)
+    two_ends n (station_after n i) i (line i) (after_within n i l) l (λ h m.
+    rw (same_number (station_before n h) i (omega (arith, before_within n h m)) (omega arith), same_number h i (omega arith) (omega arith), before_is n i h l m)
     (omega arith))

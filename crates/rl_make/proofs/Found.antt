@@ -3,7 +3,7 @@ use Rattle.std.proofs.Common.{◌≡◌, ℕ, ◌<◌, ◌^◌, true, Some, byte
 use Rattle.rl_base.specs.declared.draft.DraftBox.{DraftBox}
 use Rattle.rl_drafts.specs.Drafts.{box_names}
 use Rattle.rl_drafts.specs.Refusals.{is_among, box_named}
-use Rattle.rl_make.specs.Ring.{upper, lower, middle, line, entry, exit, joint, before, segments_of, point_box, joint_box, boxes_of, each, ring}
+use Rattle.rl_make.specs.Ring.{upper, lower, middle, line, entry, exit, joint, station_before, segments_of, point_box, joint_box, boxes_of, each, ring}
 use Rattle.rl_make.proofs.Distinct.{names_of_boxes, box_names-ring}
 use Rattle.rl_make.proofs.Each.{any-each-some, among-any, find-each}
 use Rattle.rl_make.proofs.Names.{same, differs}
@@ -32,9 +32,9 @@ joint_is n i l = rw (box_names-ring n)
     (among-any (each names_of_boxes n) (joint i) ∙ any-each-some (λ m. bytes_eq m (joint i)) names_of_boxes n i l (rw (same i)))
 
 -- and a name finds its box
-pub entry_found : (n i : ℕ) → i < n → i < 2 ^ 64 → box_named (ring n) (entry i) ≡ Some (point_box (entry i) (line (before n i)) (upper i) (lower i))
+pub entry_found : (n i : ℕ) → i < n → i < 2 ^ 64 → box_named (ring n) (entry i) ≡ Some (point_box (entry i) (line (station_before n i)) (upper i) (lower i))
 entry_found n i l fits =
-    find-each (λ (x : DraftBox). bytes_eq x.name (entry i)) (boxes_of n) n i (point_box (entry i) (line (before n i)) (upper i) (lower i)) l
+    find-each (λ (x : DraftBox). bytes_eq x.name (entry i)) (boxes_of n) n i (point_box (entry i) (line (station_before n i)) (upper i) (lower i)) l
     (λ j m. rw (differs j i m fits)) (rw (same i))
 
 pub exit_found : (n i : ℕ) → i < n → i < 2 ^ 64 → box_named (ring n) (exit i) ≡ Some (point_box (exit i) (middle i) (upper i) (lower i))

@@ -6,7 +6,7 @@ use Rattle.rl_base.specs.Draft.{HasNames}
 use Rattle.rl_base.specs.Name.{is_name}
 use Rattle.rl_base.specs.declared.draft.DraftBox.{DraftBox}
 use Rattle.rl_base.specs.declared.draft.DraftTrain.{DraftTrain}
-use Rattle.rl_make.specs.Ring.{upper, lower, before, after, segments_of, boxes_of, platform, legs, train_of, ring}
+use Rattle.rl_make.specs.Ring.{upper, lower, station_before, station_after, segments_of, boxes_of, platform, legs, train_of, ring}
 use Rattle.rl_make.proofs.Each.{below_passes, all-each}
 use Rattle.rl_make.proofs.EndsOf.{before_within, after_within}
 
@@ -28,8 +28,8 @@ legs_named n i zero h few l = refl
 legs_named n i (suc k) h few l =
     let m = after_within n h l in
     let here : h < 32 = omega arith in
-    let there : after n h < 32 = omega (arith, m, few) in
-    rw (numbered h here, numbered (after n h) there, platform_name i (after n h) there) (legs_named n i k (after n h) few m)
+    let there : station_after n h < 32 = omega (arith, m, few) in
+    rw (numbered h here, numbered (station_after n h) there, platform_name i (station_after n h) there) (legs_named n i k (station_after n h) few m)
 
 pub ring_named : (n : ℕ) → n ≤ 32 → HasNames (ring n)
 ring_named n few = record {
@@ -37,8 +37,8 @@ ring_named n few = record {
   boxes = all-each (λ (b : DraftBox). is_name b.name) (boxes_of n) n (λ i l. let m : i < 32 = omega arith in rw (numbered i m));
   arms = all-each (λ (b : DraftBox). list_all is_name b.arms) (boxes_of n) n (λ i l.
       let m : i < 32 = omega arith in
-      let earlier : before n i < 32 = omega (arith, before_within n i l, few) in
-      rw (numbered (before n i) earlier, numbered i m));
+      let earlier : station_before n i < 32 = omega (arith, before_within n i l, few) in
+      rw (numbered (station_before n i) earlier, numbered i m));
   trains = all-each (λ (t : DraftTrain). is_name t.name) (λ i. train_of n i ∷ []) n (λ i l. let m : i < 32 = omega arith in rw (numbered i m));
   routes = all-each (λ (t : DraftTrain). list_all is_name t.route) (λ i. train_of n i ∷ []) n
       (λ i l. let m : i < 32 = omega arith in rw (platform_name i i m, legs_named n i 20 i few l));

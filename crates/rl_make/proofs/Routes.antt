@@ -6,7 +6,7 @@ use Rattle.std.specs.Option.{option_map_or}
 use Rattle.rl_base.specs.declared.draft.Draft.{Draft}
 use Rattle.rl_drafts.specs.Drafts.{box_names}
 use Rattle.rl_drafts.specs.Refusals.{on_name, is_among, box_named, connects_names, fits_at}
-use Rattle.rl_make.specs.Ring.{upper, lower, middle, line, entry, exit, joint, after, segments_of, point_box, platform, legs, train_of, each, ring}
+use Rattle.rl_make.specs.Ring.{upper, lower, middle, line, entry, exit, joint, station_after, segments_of, point_box, platform, legs, train_of, each, ring}
 use Rattle.rl_make.proofs.EndsOf.{after_within, before_after}
 use Rattle.rl_make.proofs.Found.{upper_is, lower_is, middle_is, line_is, entry_is, exit_is, joint_is, entry_found, exit_found, joint_found}
 use Rattle.rl_make.proofs.Names.{same}
@@ -15,7 +15,7 @@ use Rattle.rl_make.proofs.Names.{same}
 length-legs : (n i k h : ℕ) → length (legs n i k h) ≡ 6 * k
 unfolding legs
 length-legs n i zero h = refl
-length-legs n i (suc k) h = omega (arith, length-legs n i k (after n h))
+length-legs n i (suc k) h = omega (arith, length-legs n i k (station_after n h))
 
 pub length-route : (n i : ℕ) → length (train_of n i).route ≡ 121
 length-route n i = omega (arith, length-legs n i 20 i)
@@ -58,7 +58,10 @@ legs_alternate n i (suc k) h l =
       exit_is n h l,
       (
         middle_is n h l,
-        (joint_is n h l, (line_is n h l, (entry_is n (after n h) m, (platform_is n i (after n h) m, legs_alternate n i k (after n h) m)))),
+        (
+          joint_is n h l,
+          (line_is n h l, (entry_is n (station_after n h) m, (platform_is n i (station_after n h) m, legs_alternate n i k (station_after n h) m))),
+        ),
       ),
     )
 
@@ -142,10 +145,10 @@ exit_fits n i h l small = rw (exit_found n h l small) (at (eqb (i % 2) 0))
 joint_fits : (n h : ℕ) → h < n → h < 2 ^ 64 → fits (ring n) (middle h) (joint h) (line h) ≡ true
 joint_fits n h l small = rw (joint_found n h l small, same h)
 
-entry_fits : (n i h : ℕ) → h < n → n < 2 ^ 64 → fits (ring n) (line h) (entry (after n h)) (platform i (after n h)) ≡ true
+entry_fits : (n i h : ℕ) → h < n → n < 2 ^ 64 → fits (ring n) (line h) (entry (station_after n h)) (platform i (station_after n h)) ≡ true
 entry_fits n i h l small =
     let m = after_within n h l in
-    rw (entry_found n (after n h) m (omega (arith, m, small)), before_after n h l) (at (after n h) (eqb (i % 2) 0))
+    rw (entry_found n (station_after n h) m (omega (arith, m, small)), before_after n h l) (at (station_after n h) (eqb (i % 2) 0))
   where
     at : (g : ℕ) (b : Bool) → connects_names (point_box (entry g) (line h) (upper g) (lower g)) (Some (line h)) (Some (cond b (upper g) (lower g))) ≡ true
     at g true = rw (same h, same g)
@@ -156,7 +159,7 @@ unfolding legs
 legs_fit n i zero h l small = tt
 legs_fit n i (suc k) h l small = (
   exit_fits n i h l (omega (arith, l, small)),
-  (joint_fits n h l (omega (arith, l, small)), (entry_fits n i h l small, legs_fit n i k (after n h) (after_within n h l) small)),
+  (joint_fits n h l (omega (arith, l, small)), (entry_fits n i h l small, legs_fit n i k (station_after n h) (after_within n h l) small)),
 )
 
 pub route_fits : (n i j : ℕ) → i < n → n < 2 ^ 64 → misfits (ring n) (train_of n i).route j ≡ false

@@ -6,6 +6,7 @@ use Rattle.rl_base.specs.declared.draft.DraftBox.{DraftBox}
 use Rattle.rl_base.specs.declared.draft.DraftTrain.{DraftTrain}
 use Rattle.rl_base.specs.declared.kind.Kind.TheVariants.{Joint, Point}
 use Rattle.rl_base.specs.declared.kind.Side.TheVariants.{Left}
+use Rattle.rl_make.specs.declared.train.TheConstants.{LEGS}
 
 -- the segments of station i: its two platforms, the middle behind them, and the line to the next station
 abbrev pub upper : ℕ → List ℕ
@@ -31,11 +32,11 @@ abbrev pub joint : ℕ → List ℕ
 joint i = codes "J" ++ decimal i
 
 -- the station before station i in a ring of n, and the one after it
-abbrev pub before : ℕ → ℕ → ℕ
-before n i = if i == 0 then n - 1 else i - 1
+abbrev pub station_before : ℕ → ℕ → ℕ
+station_before n i = if i == 0 then n - 1 else i - 1
 
-abbrev pub after : ℕ → ℕ → ℕ
-after n i = if i + 1 == n then 0 else i + 1
+abbrev pub station_after : ℕ → ℕ → ℕ
+station_after n i = if i + 1 == n then 0 else i + 1
 
 abbrev pub segments_of : ℕ → List (List ℕ)
 segments_of i = upper i ∷ lower i ∷ middle i ∷ line i ∷ []
@@ -49,7 +50,7 @@ joint_box name one other = record { name = name; kind = Joint; arms = one ∷ ot
 
 abbrev pub boxes_of : ℕ → ℕ → List DraftBox
 boxes_of n i =
-    point_box (entry i) (line (before n i)) (upper i) (lower i)
+    point_box (entry i) (line (station_before n i)) (upper i) (lower i)
     ∷ point_box (exit i) (middle i) (upper i) (lower i)
     ∷ joint_box (joint i) (middle i) (line i)
     ∷ []
@@ -60,16 +61,16 @@ platform i h = if i % 2 == 0 then upper h else lower h
 
 -- the names that train i passes from its platform at station h to the one at the next
 abbrev pub leg : ℕ → ℕ → ℕ → List (List ℕ)
-leg n i h = exit h ∷ middle h ∷ joint h ∷ line h ∷ entry (after n h) ∷ platform i (after n h) ∷ []
+leg n i h = exit h ∷ middle h ∷ joint h ∷ line h ∷ entry (station_after n h) ∷ platform i (station_after n h) ∷ []
 
 -- and so many stations on
 unfoldable pub legs : ℕ → ℕ → ℕ → ℕ → List (List ℕ)
 legs n i zero h = []
-legs n i (suc k) h = leg n i h ++ legs n i k (after n h)
+legs n i (suc k) h = leg n i h ++ legs n i k (station_after n h)
 
--- train i starts at its platform of station i and goes twenty stations on
+-- train i starts at its platform of station i and goes on to as many stations as it has legs
 abbrev pub train_of : ℕ → ℕ → DraftTrain
-train_of n i = record { name = codes "T" ++ decimal i; route = platform i i ∷ legs n i 20 i }
+train_of n i = record { name = codes "T" ++ decimal i; route = platform i i ∷ legs n i LEGS i }
 
 -- what f gives for each number below n, in order
 abbrev pub each : {A : Type 0} → (ℕ → List A) → ℕ → List A

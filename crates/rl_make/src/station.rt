@@ -1,5 +1,5 @@
 ghost use Rattle.std.specs.Prelude.{◌≡◌, ◌<◌, ◌≤◌, ◌∷◌, [], ◌++◌, IfOk, OnOk, decimal};
-ghost use Rattle.rl_make.specs.Ring.{upper, lower, middle, line, entry, exit, joint, before, after, segments_of};
+ghost use Rattle.rl_make.specs.Ring.{upper, lower, middle, line, entry, exit, joint, station_before, station_after, segments_of};
 ghost use Rattle.rl_make.specs.Ring.{point_box, joint_box, boxes_of};
 
 use rl_base::{DraftBox, DraftBoxes, Kind, Name, Names, NoMemory, Side};
@@ -59,18 +59,18 @@ pub(crate) fn joint(alloc: Global, i: u32) -> Result<Name, NoMemory>
 }
 
 /// The station before another in the ring.
-fn before(n: u32, i: u32) -> u32
+fn station_before(n: u32, i: u32) -> u32
     requires { i < n }
-    ensures value { result ≡ before n i }
+    ensures value { result ≡ station_before n i }
     ensures within { result < n }
 {
     if i == 0 { n - 1 } else { i - 1 }
 }
 
 /// The station after another in the ring.
-pub(crate) fn after(n: u32, i: u32) -> u32
+pub(crate) fn station_after(n: u32, i: u32) -> u32
     requires { i < n }
-    ensures value { result ≡ after n i }
+    ensures value { result ≡ station_after n i }
     ensures within { result < n }
 {
     if i + 1 == n { 0 } else { i + 1 }
@@ -122,12 +122,12 @@ fn joint_box(alloc: Global, name: Name, one: Name, other: Name) -> Result<DraftB
 
 fn entry_box(alloc: Global, n: u32, i: u32) -> Result<DraftBox, NoMemory>
     requires { i < n }
-    ensures { IfOk result (λ b. b ≡ point_box (entry i) (line (before n i)) (upper i) (lower i)) }
+    ensures { IfOk result (λ b. b ≡ point_box (entry i) (line (station_before n i)) (upper i) (lower i)) }
 {
     point_box(
         alloc,
         entry(alloc, i)?,
-        line(alloc, before(n, i))?,
+        line(alloc, station_before(n, i))?,
         upper(alloc, i)?,
         lower(alloc, i)?,
     )

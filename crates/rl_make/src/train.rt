@@ -1,12 +1,12 @@
 ghost use Rattle.std.specs.Prelude.{◌≡◌, ◌<◌, ◌++◌, IfOk, OnOk};
-ghost use Rattle.rl_make.specs.Ring.{after, platform, leg, legs, train_of};
+ghost use Rattle.rl_make.specs.Ring.{station_after, platform, leg, legs, train_of};
 
-use crate::station::{after, entry, exit, joint, line, lower, middle, name, upper};
+use crate::station::{entry, exit, joint, line, lower, middle, name, station_after, upper};
 use rl_base::{DraftTrain, Name, Names, NoMemory};
 use std::alloc::Global;
 
 /// How many stations a train goes on from its first.
-const LEGS: u32 = 20;
+pub const LEGS: u32 = 20;
 
 /// The platform of train `i` at station `h`.
 fn platform(alloc: Global, i: u32, h: u32) -> Result<Name, NoMemory>
@@ -24,7 +24,7 @@ fn push_leg(alloc: Global, n: u32, i: u32, route: &mut Names, h: u32) -> Result<
     requires { h < n }
     ensures { OnOk result (route.new ≡ route.old ++ leg n i h) }
 {
-    let next = after(n, h);
+    let next = station_after(n, h);
     route.push(exit(alloc, h)?)?;
     route.push(middle(alloc, h)?)?;
     route.push(joint(alloc, h)?)?;
@@ -43,7 +43,7 @@ pub(crate) fn train_of(alloc: Global, n: u32, i: u32) -> Result<DraftTrain, NoMe
     let mut station = i;
     for _leg in 0..LEGS {
         push_leg(alloc, n, i, &mut route, station)?;
-        station = after(n, station);
+        station = station_after(n, station);
     }
     Ok(DraftTrain {
         name: name(alloc, b"T", i)?,

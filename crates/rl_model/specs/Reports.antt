@@ -1,6 +1,7 @@
 -- Right reports: what is counted, which fate fits, and that the moves are a safe run.
 use Rattle.std.specs.Prelude.{◌≡◌, ℕ, ◌+◌, ◌<◌, ◌≤◌, ◌==◌, Bool, true, false, ◌&&◌, List, length, count_by, slice_get, Some}
-use Rattle.rl_base.specs.declared.limits.TheConstants.{MIN_TRIES, MAX_TRIES, MAX_MOVES}
+use Rattle.rl_base.specs.declared.limits.TheConstants.{MIN_TRIES, MAX_MOVES}
+use Rattle.rl_base.specs.Tries.{AreFewTries}
 use Rattle.rl_model.specs.declared.moves.Move.{Move}
 use Rattle.rl_model.specs.declared.moves.Move.TheVariants.{Leave, Refuse, Bar}
 use Rattle.rl_model.specs.declared.network.NetworkPlan.{NetworkPlan}
@@ -66,7 +67,7 @@ pub record IsRightReport (net : NetworkPlan) (report : Report) : Type 0 where
 -- numbers are no more than a report has moves
 pub record IsReportOf (net : NetworkPlan) (report : Report) : Type 0 where
   pub some_tries : MIN_TRIES ≤ report.tries
-  pub few_tries : report.tries ≤ MAX_TRIES
+  pub few_tries : AreFewTries report.tries
   pub moves : (k : ℕ) (m : Move) → slice_get report.moves k ≡ Some m → IsMoveOf net m
   pub trains : length report.outcomes ≡ length net.trains
   pub outcomes : (t : ℕ) (o : Outcome) → slice_get report.outcomes t ≡ Some o

@@ -3,6 +3,7 @@ use Rattle.std.proofs.Common.{◌≡◌, ℕ, ◌≤◌, Bool, false, not, ltb, 
 use Rattle.std.specs.Option.{option_map_or}
 use Rattle.std.proofs.lemmas.Option.{slice_get_within}
 use Rattle.std.proofs.lemmas.Bool.Decides.{nat_tests}
+use Rattle.rl_base.specs.declared.limits.TheConstants.{MAX_ROUTE}
 use Rattle.rl_base.specs.declared.kind.Kind.{Kind}
 use Rattle.rl_base.specs.declared.kind.Kind.TheVariants.{Buffer, Joint, Point, Crossing}
 use Rattle.rl_base.specs.declared.place.Place.TheVariants.{TrainRoute, BoxArms}
@@ -15,16 +16,16 @@ use Rattle.rl_drafts.specs.Search.{among_boxes, among_trains, arms_at, route_len
 use Rattle.rl_net.proofs.Search.{none_below, none_tried, tried}
 
 -- no route is too long
-pub routes_short : (d : Draft) → among_trains d 5 TrainRoute ≡ None → (i : ℕ) → route_length d i ≤ 129
+pub routes_short : (d : Draft) → among_trains d 5 TrainRoute ≡ None → (i : ℕ) → route_length d i ≤ MAX_ROUTE
 routes_short d none i = at (slice_get d.trains i) refl
   where
-    at : (o : Option DraftTrain) → slice_get d.trains i ≡ o → option_map_or (λ (t : DraftTrain). length t.route) o 0 ≤ 129
+    at : (o : Option DraftTrain) → slice_get d.trains i ≡ o → option_map_or (λ (t : DraftTrain). length t.route) o 0 ≤ MAX_ROUTE
     at None e = omega arith
     at (Some t) e =
         let test : ℕ → Bool = λ k. breaks d 5 (TrainRoute k) in
         let fine : test i ≡ false =
         none_tried test (λ k. TrainRoute k) i (none_below (tried test (λ k. TrainRoute k)) (length d.trains) i none (slice_get_within d.trains i t e)) in
-        let short : ltb 129 (length t.route) ≡ false = rw e at fine in
+        let short : ltb MAX_ROUTE (length t.route) ≡ false = rw e at fine in
         grind (arith, nat_tests)
 
 -- no kind has more than four arms

@@ -1,7 +1,11 @@
--- The refusal of a network: its number, its place, and that it is the first refusal of the draft.
-use Rattle.std.specs.Prelude.{◌≡◌, ℕ, Option, Some}
+-- The refusal of a draft: its number, its place, that it is the first, and the one answer that is right.
+use Rattle.std.specs.Prelude.{◌≡◌, ℕ, Option, Some, Result, Ok, Err}
+use Rattle.rl_base.specs.declared.draft.Draft.{Draft}
 use Rattle.rl_base.specs.declared.place.Place.{Place}
 use Rattle.rl_base.specs.declared.place.Place.TheVariants as place
+use Rattle.rl_model.specs.declared.network.NetworkPlan.{NetworkPlan}
+use Rattle.rl_drafts.specs.Drafts.{network_of}
+use Rattle.rl_drafts.specs.Refusals.{IsAccepted, IsFirstRefusal}
 use Rattle.rl_drafts.specs.Search.{Refusal}
 use Rattle.rl_net.specs.declared.refusal.NetRefusal.{NetRefusal}
 use Rattle.rl_net.specs.declared.refusal.NetRefusal.TheVariants.{Count, Twice, ArmCount, NoSegment, SameBox, Ends, At, RouteShape, RouteName, RouteFit, StartShared, NoMemory}
@@ -36,7 +40,22 @@ refusal_place (RouteFit p) = p
 refusal_place (StartShared p) = p
 refusal_place NoMemory = place.None
 
--- the refusal says the number and the place of the first refusal; want of memory says nothing of it
-abbrev pub IsRefusal : NetRefusal → Option Refusal → Type 0
-IsRefusal NoMemory first = Unit {0}
-IsRefusal e first = first ≡ Some record { number = refusal_number e; place = refusal_place e }
+-- the number and the place are those of the draft's first refusal; want of memory says nothing of it
+abbrev pub IsRefusal : Draft → NetRefusal → Type 0
+IsRefusal d NoMemory = Unit {0}
+IsRefusal d e = IsFirstRefusal d (refusal_number e) (refusal_place e)
+
+-- the answer is right: the draft breaks no rule and this is its network, or this is its first refusal
+abbrev pub IsRight : Draft → Result NetworkPlan NetRefusal → Type 0
+IsRight d (Ok net) = IsAccepted d × (net ≡ network_of d)
+IsRight d (Err e) = IsFirstRefusal d (refusal_number e) (refusal_place e)
+
+-- the fact, unless the answer is that memory ran out
+abbrev pub UnlessMemory : Result NetworkPlan NetRefusal → Type 0 → Type 0
+UnlessMemory (Err NoMemory) P = Unit {0}
+UnlessMemory _ P = P
+
+-- the number and the place are those that a search found; want of memory says nothing of it
+abbrev pub IsFound : NetRefusal → Option Refusal → Type 0
+IsFound NoMemory first = Unit {0}
+IsFound e first = first ≡ Some record { number = refusal_number e; place = refusal_place e }

@@ -37,6 +37,15 @@ impl Network {
         Network { plan, names }
     }
 
+    /// What acceptance gave, for a caller's proof: the sizes, each part in itself, names and starts that differ.
+    /// It does nothing.
+    #[inline(always)]
+    pub fn accepted(&self)
+        ensures { IsNetwork self.now }
+    {
+        let _ = &self.plan;
+    }
+
     /// How many segments there are, at most `MAX_SEGMENTS`.
     pub fn segments(&self) -> u32
         ensures count { result ≡ length self.now.segments }

@@ -9,7 +9,7 @@ use thiserror::Error;
 /// number, and stands in the order of the numbers.
 #[derive(Debug, Drop, Error)]
 pub enum NetRefusal {
-    /// 5. More than 256 segments, 128 boxes, 32 trains, or 129 names in a route.
+    /// 5. More than `MAX_SEGMENTS` segments, `MAX_BOXES` boxes, `MAX_TRAINS` trains, or `MAX_ROUTE` names in a route.
     #[error("too many segments, boxes, trains or names in a route")]
     Count(Place),
     /// 6. A name that an earlier item of the same list has.

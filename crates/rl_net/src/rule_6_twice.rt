@@ -5,7 +5,7 @@ ghost use Rattle.rl_base.specs.declared.place.Place.TheVariants as place;
 ghost use Rattle.rl_drafts.specs.Drafts.{box_names, train_names};
 ghost use Rattle.rl_drafts.specs.Search.{first_twice, among_segments, among_boxes, among_trains, refuse};
 ghost use Rattle.rl_net.specs.NameTables.{AreTablesOf, AreUnlike};
-ghost use Rattle.rl_net.specs.NetRefusals.{IsRefusal};
+ghost use Rattle.rl_net.specs.NetRefusals.{IsFound};
 ghost use Rattle.rl_net.specs.Sizes.{HasFewItems};
 
 use crate::name_table::{NameFault, NameTable};
@@ -20,7 +20,7 @@ fn segment_names(alloc: Global, draft: &Draft) -> Result<NameTable, NetRefusal>
     ensures names { IfOk result (λ table. table ≡ draft.now.segments) }
     ensures unlike { OnOk result (AreUnlike draft.now.segments) }
     ensures unbroken { OnOk result (among_segments draft.now 6 ≡ None) }
-    ensures refused { IfErr result (λ e. IsRefusal e (refuse 6 (among_segments draft.now 6) None)) }
+    ensures refused { IfErr result (λ e. IsFound e (refuse 6 (among_segments draft.now 6) None)) }
 {
     match NameTable::of(alloc, draft.segments.as_slice()) {
         Ok(table) => Ok(table),
@@ -34,7 +34,7 @@ fn names_of_boxes(alloc: Global, draft: &Draft) -> Result<NameTable, NetRefusal>
     requires { length draft.now.boxes ≤ MAX_BOXES }
     ensures names { IfOk result (λ table. table ≡ box_names draft.now) }
     ensures unbroken { OnOk result (among_boxes draft.now 6 place.BoxName ≡ None) }
-    ensures refused { IfErr result (λ e. IsRefusal e (refuse 6 (among_boxes draft.now 6 place.BoxName) None)) }
+    ensures refused { IfErr result (λ e. IsFound e (refuse 6 (among_boxes draft.now 6 place.BoxName) None)) }
 {
     match NameTable::of(alloc, draft.boxes.as_slice()) {
         Ok(table) => Ok(table),
@@ -48,7 +48,7 @@ fn names_of_trains(alloc: Global, draft: &Draft) -> Result<NameTable, NetRefusal
     requires { length draft.now.trains ≤ MAX_TRAINS }
     ensures names { IfOk result (λ table. table ≡ train_names draft.now) }
     ensures unbroken { OnOk result (among_trains draft.now 6 place.TrainName ≡ None) }
-    ensures refused { IfErr result (λ e. IsRefusal e (refuse 6 (among_trains draft.now 6 place.TrainName) None)) }
+    ensures refused { IfErr result (λ e. IsFound e (refuse 6 (among_trains draft.now 6 place.TrainName) None)) }
 {
     match NameTable::of(alloc, draft.trains.as_slice()) {
         Ok(table) => Ok(table),
@@ -62,7 +62,7 @@ pub(crate) fn names_of(alloc: Global, draft: &Draft) -> Result<NameTables, NetRe
     requires { HasFewItems draft.now }
     ensures tables { IfOk result (AreTablesOf draft.now) }
     ensures unbroken { OnOk result (first_twice draft.now ≡ None) }
-    ensures refused { IfErr result (λ e. IsRefusal e (refuse 6 (first_twice draft.now) None)) }
+    ensures refused { IfErr result (λ e. IsFound e (refuse 6 (first_twice draft.now) None)) }
 {
     Ok(NameTables {
         segments: segment_names(alloc, draft)?,

@@ -4,18 +4,19 @@ use Rattle.std.proofs.Common.{◌≡◌, ℕ, zero, suc, ◌<◌, ◌≤◌, Lis
 use Rattle.std.proofs.Common.{map, reverse, slice_get, Some, refl, sym, ap, ◌∙◌, subst, append-nil, arith}
 use Rattle.std.proofs.lemmas.List.{length-map, reverse-reverse}
 use Rattle.std.proofs.lemmas.Option.{slice_get_within}
+use Rattle.rl_base.specs.Tries.{AreFewTries}
 use Rattle.rl_record.specs.declared.event.Event.{Event}
 use Rattle.rl_record.specs.Merge.{history}
 use Rattle.rl_record.specs.Records.{Record}
-use Rattle.rl_lamport.specs.Records.{AreRecordsOf}
+use Rattle.rl_merge.specs.Records.{AreRecordsOf}
 use Rattle.rl_tables.specs.declared.table.Tables.{Tables}
 use Rattle.rl_tables.specs.Kept.{IsLine}
-use Rattle.rl_runs.specs.Run.{state}
+use Rattle.rl_steps.specs.Run.{state}
 use Rattle.rl_rule.specs.declared.rails.Rails.{Rails}
 use Rattle.rl_rule.specs.declared.views.Kept.{Kept}
 use Rattle.rl_rule.specs.Closing.{IsReplay}
 use Rattle.rl_rule.specs.Ruled.{IsKept}
-use Rattle.rl_rule.specs.Seats.{line_of, tries_of, taken, walk_of, IsSameRails}
+use Rattle.rl_rule.specs.Seats.{rails_line, rails_tries, taken, walk_of, IsSameRails}
 use Rattle.rl_nodes.specs.declared.parts.Part.{Part}
 use Rattle.rl_nodes.specs.Parts.{AreParts}
 use Rattle.rl_nodes.specs.Finished.{records_of, minds_of, AreMinds}
@@ -23,26 +24,26 @@ use Rattle.rl_nodes.proofs.KeptParts.{kept_part, kept_parts, kept_at, none_kept}
 
 -- the log is the run of all the parts of these rails
 pub record IsLastRun (rails : Rails) (parts : List Part) (words : List ℕ) (log : List Event) : Type 0 where
-  pub line : IsLine (line_of rails)
-  pub tries : tries_of rails ≤ 1000
-  pub replay : IsReplay (line_of rails) (tries_of rails) (kept_parts parts) words log
+  pub line : IsLine (rails_line rails)
+  pub tries : AreFewTries (rails_tries rails)
+  pub replay : IsReplay (rails_line rails) (rails_tries rails) (kept_parts parts) words log
 
 -- as closing the rails tells it, once the parts were taken in
 pub last_run : (old new : Rails) (parts : List Part) (words : List ℕ) → taken old ≡ [] → IsSameRails old new
-    → taken new ≡ kept_parts parts ++ taken old → IsLine (line_of new) → tries_of new ≤ 1000
-    → (log : List Event) × IsReplay (line_of new) (tries_of new) (taken new) words log
+    → taken new ≡ kept_parts parts ++ taken old → IsLine (rails_line new) → AreFewTries (rails_tries new)
+    → (log : List Event) × IsReplay (rails_line new) (rails_tries new) (taken new) words log
     → (log : List Event) × IsLastRun old parts words log
 last_run old new parts words none same all line tries (log, replay) =
     let kept : taken new ≡ kept_parts parts = all ∙ (ap (λ (l : List Kept). kept_parts parts ++ l) none ∙ append-nil (kept_parts parts)) in
-    let on_line : IsReplay (line_of old) (tries_of new) (taken new) words log =
-    subst (λ (t : Tables). IsReplay t (tries_of new) (taken new) words log) same.line replay in
-    let with_tries : IsReplay (line_of old) (tries_of old) (taken new) words log =
-    subst (λ (k : ℕ). IsReplay (line_of old) k (taken new) words log) same.tries on_line in (
+    let on_line : IsReplay (rails_line old) (rails_tries new) (taken new) words log =
+    subst (λ (t : Tables). IsReplay t (rails_tries new) (taken new) words log) same.line replay in
+    let with_tries : IsReplay (rails_line old) (rails_tries old) (taken new) words log =
+    subst (λ (k : ℕ). IsReplay (rails_line old) k (taken new) words log) same.tries on_line in (
       log,
       record {
         line = subst IsLine same.line line;
-        tries = subst (λ (k : ℕ). k ≤ 1000) same.tries tries;
-        replay = subst (λ (l : List Kept). IsReplay (line_of old) (tries_of old) l words log) kept with_tries;
+        tries = subst AreFewTries same.tries tries;
+        replay = subst (λ (l : List Kept). IsReplay (rails_line old) (rails_tries old) l words log) kept with_tries;
       },
     )
 
@@ -58,8 +59,8 @@ module _ {A : Type 0} (f : Part → A) where
 record_is : (rails : Rails) (parts : List Part) (words : List ℕ) (log : List Event) → AreParts rails parts → IsLastRun rails parts words log
     → (n : ℕ) (part : Part) → slice_get parts n ≡ Some part → part.«record».events ≡ reverse (history n log)
 record_is rails parts words log are last n part at =
-    let kept : IsKept (line_of rails) (tries_of rails) log (kept_part part) =
-    kept_at (line_of rails) (tries_of rails) log parts n part last.replay.kept at in
+    let kept : IsKept (rails_line rails) (rails_tries rails) log (kept_part part) =
+    kept_at (rails_line rails) (rails_tries rails) log parts n part last.replay.kept at in
     let own : (walk_of part.seat).history ≡ history n log = kept.history ∙ ap (λ (m : ℕ). history m log) (are.each n part at).number in
     sym (reverse-reverse part.«record».events) ∙ ap (λ (l : List Event). reverse l) (sym part.history_is ∙ own)
 
@@ -87,9 +88,9 @@ records_are rails parts words log are last =
     }
 
 pub minds_are : (rails : Rails) (parts : List Part) (words : List ℕ) (log : List Event) → AreParts rails parts → IsLastRun rails parts words log
-    → AreMinds (state (line_of rails) (tries_of rails) log).minds (minds_of parts)
+    → AreMinds (state (rails_line rails) (rails_tries rails) log).minds (minds_of parts)
 minds_are rails parts words log are last n mind at =
     let (part, there, is) = made_of (λ (part : Part). part.mind) parts n mind at in
-    let kept : IsKept (line_of rails) (tries_of rails) log (kept_part part) =
-    kept_at (line_of rails) (tries_of rails) log parts n part last.replay.kept there in
-    sym is ∙ (sym part.mind_is ∙ (kept.mind ∙ ap (state (line_of rails) (tries_of rails) log).minds (are.each n part there).number))
+    let kept : IsKept (rails_line rails) (rails_tries rails) log (kept_part part) =
+    kept_at (rails_line rails) (rails_tries rails) log parts n part last.replay.kept there in
+    sym is ∙ (sym part.mind_is ∙ (kept.mind ∙ ap (state (rails_line rails) (rails_tries rails) log).minds (are.each n part there).number))

@@ -1,12 +1,13 @@
 -- Lists that grow side by side: seats and nodes, nodes and parts.
-use Rattle.std.proofs.Common.{◌≡◌, ℕ, zero, suc, ◌+◌, ◌<◌, ◌⊎◌, inl, inr, List, [], ◌∷◌, ◌++◌, length, slice_get, Some, Result, Ok, Err, IfOk, refl, sym, ap, ◌∙◌, subst, arith, length-append}
+use Rattle.std.proofs.Common.{◌≡◌, ℕ, zero, suc, ◌+◌, ◌<◌, ◌⊎◌, inl, inr, List, [], ◌∷◌, ◌++◌}
+use Rattle.std.proofs.Common.{length, slice_get, Some, Result, Ok, Err, IfOk, refl, sym, ap, ◌∙◌, subst, arith, length-append}
 use Rattle.std.proofs.lemmas.Option.{slice_get_within}
 use Rattle.rl_base.specs.Layout.{node_count}
 use Rattle.rl_tables.specs.Starts.{layout_of}
 use Rattle.rl_rule.specs.declared.views.Walk.{Walk}
 use Rattle.rl_rule.specs.declared.seats.NodeSeat.{NodeSeat}
 use Rattle.rl_rule.specs.declared.rails.Rails.{Rails}
-use Rattle.rl_rule.specs.Seats.{line_of, tries_of, walk_of, IsSameRails}
+use Rattle.rl_rule.specs.Seats.{rails_line, rails_tries, walk_of, IsSameRails}
 use Rattle.rl_rule.specs.Views.{start_walk}
 use Rattle.rl_tables.specs.declared.table.Tables.{Tables}
 use Rattle.rl_nodes.specs.declared.parts.Part.{Part}
@@ -71,7 +72,7 @@ laid_more rails limit seats nodes seat node laid is =
 
 -- the seat that comes next is that of the next node
 pub record IsNext (rails : Rails) (seat : NodeSeat) : Type 0 where
-  pub there : (walk_of seat).node.0 < node_count (layout_of (line_of rails))
+  pub there : (walk_of seat).node.0 < node_count (layout_of (rails_line rails))
   pub starts : IsStartSeat rails (walk_of seat).node.0 seat
 
 pub next_seat : (rails : Rails) (seats so_far rest : List NodeSeat) (seat : NodeSeat) → AreSeatsOf rails seats → so_far ++ seat ∷ rest ≡ seats
@@ -133,7 +134,7 @@ seats_more rails now count seats seat same are is =
     here = record {
       own = is.own ∙ same.id;
       line = is.line ∙ same.line;
-      walk = is.walk ∙ ap (λ (t : Tables). start_walk t (tries_of now) count) same.line ∙ ap (λ (k : ℕ). start_walk (line_of rails) k count) same.tries;
+      walk = is.walk ∙ ap (λ (t : Tables). start_walk t (rails_tries now) count) same.line ∙ ap (λ (k : ℕ). start_walk (rails_line rails) k count) same.tries;
     }
 
     one : (i : ℕ) (s : NodeSeat) → (slice_get seats i ≡ Some s) ⊎ ((i ≡ length seats) × (seat ≡ s)) → IsStartSeat rails i s

@@ -1,16 +1,14 @@
 -- After rounds the nodes are still those of their rails, and so are their parts.
-use Rattle.std.proofs.Common.{◌≡◌, ℕ, ◌<◌, true, List, ◌++◌, length, take, slice_get, slice_index_or, Some, sym, ap, ◌∙◌, subst, arith}
-use Rattle.std.proofs.lemmas.List.{drop_all, take_all, append-nil}
+use Rattle.std.proofs.Common.{◌≡◌, ℕ, ◌<◌, true, List, length, slice_get, slice_index_or, Some, sym, ap, ◌∙◌, subst, arith}
 use Rattle.std.proofs.lemmas.Option.{slice_get_within, get_or_from_slice_get, slice_get-get_or}
 use Rattle.rl_tables.specs.declared.table.Tables.{Tables}
-use Rattle.rl_runs.specs.declared.mind.Mind.{Mind}
+use Rattle.rl_steps.specs.declared.mind.Mind.{Mind}
 use Rattle.rl_rule.specs.declared.views.Walk.{Walk}
 use Rattle.rl_rule.specs.declared.rails.Rails.{Rails}
-use Rattle.rl_rule.specs.Seats.{line_of}
+use Rattle.rl_rule.specs.Seats.{rails_line}
 use Rattle.rl_runner.specs.Turns.{HasTurned, EachTurned}
 use Rattle.rl_nodes.specs.declared.parts.Part.{Part}
 use Rattle.rl_nodes.specs.Nodes.{Node, number, turns_of, rests, is_at_rest, IsHome, IsNodeOf, AreNodesOf, IsToppedUp, AreToppedUp}
-use Rattle.rl_nodes.specs.Lending.{replaced}
 use Rattle.rl_nodes.specs.Parts.{IsPartOf, AreParts}
 use Rattle.rl_nodes.specs.Parting.{IsPartOfNode, ArePartsOf}
 use Rattle.rl_nodes.proofs.Resting.{item_there}
@@ -64,7 +62,8 @@ parts_of_rails rails limit nodes parts are of =
     }
 
 pub part_at_rest : (rails : Rails) (limit i : ℕ) (nodes : List Node) (parts : List Part) (node : Node) (part : Part) → AreNodesOf rails limit nodes
-    → ArePartsOf nodes parts → slice_get nodes i ≡ Some node → slice_get parts i ≡ Some part → rests node ≡ true → is_at_rest (line_of rails) i part.mind ≡ true
+    → ArePartsOf nodes parts → slice_get nodes i ≡ Some node → slice_get parts i ≡ Some part → rests node ≡ true
+    → is_at_rest (rails_line rails) i part.mind ≡ true
 part_at_rest rails limit i nodes parts node part are of there at rest =
     let is = are.each i node there in
     let mine = of.each i node part there at in
@@ -91,10 +90,3 @@ topped_up_stay rails limit old new same topped are =
     one_topped : (rails : Rails) (limit n : ℕ) (old new : Node) → IsToppedUp old new → IsNodeOf rails limit n old → IsNodeOf rails limit n new
     one_topped rails limit n old new is of =
         rw is record { rails_are = of.rails_are; line_is = of.line_is; tries_are = of.tries_are; limit_is = of.limit_is; number_is = of.number_is }
-
--- as many items as there were are all items
-pub replaced_by_all : {A : Type 0} (items new : List A) → length new ≡ length items → replaced items new ≡ new
-replaced_by_all {A} items new same =
-    ap (λ (xs : List A). take (length items) (new ++ xs)) (drop_all (length new) items (omega (arith, same)))
-    ∙ ap (take (length items)) (append-nil new)
-    ∙ take_all (length items) new (omega (arith, same))

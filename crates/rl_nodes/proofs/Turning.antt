@@ -6,17 +6,17 @@ use Rattle.rl_record.specs.declared.event.Turn.{Turn}
 use Rattle.rl_record.specs.declared.event.Turn.TheVariants.{Moved, Idle, Rest, Full}
 use Rattle.rl_record.specs.Records.{Record, pushed}
 use Rattle.rl_tables.specs.declared.table.Tables.{Tables}
-use Rattle.rl_runs.specs.declared.mind.Mind.{Mind}
-use Rattle.rl_runs.specs.Step.{target_of}
+use Rattle.rl_steps.specs.declared.mind.Mind.{Mind}
+use Rattle.rl_steps.specs.Step.{target_of}
 use Rattle.rl_rule.specs.declared.views.Walk.{Walk}
 use Rattle.rl_rule.specs.declared.seats.NodeSeat.{NodeSeat}
 use Rattle.rl_rule.specs.declared.rails.Rails.{Rails}
 use Rattle.rl_rule.specs.Seats.{walk_of}
 use Rattle.rl_runner.specs.Turns.{raised}
 use Rattle.rl_nodes.specs.Nodes.{Node, number, turns_of, IsWhole, node_of, IsHome, IsReady, is_train_at_rest}
-use Rattle.rl_nodes.specs.Turns.{scan_after, Looks, Idles, Moves, IsTurn, Finds}
+use Rattle.rl_nodes.specs.Turns.{scan_after, Looks, Idles, Moves, IsTurn, LoadFinds}
 use Rattle.rl_nodes.specs.Looks.{LeavesWord, ChangesWord}
-use Rattle.rl_nodes.proofs.Resting.{at_rest, awake}
+use Rattle.rl_nodes.proofs.Resting.{no_target_rests, awake}
 
 -- a node in its parts, before the turn
 pub record Parts (rails : Rails) (line : Tables) (seat : NodeSeat) (mind : Mind) (scan : ℕ) (log : Record) : Type 0 where
@@ -29,7 +29,7 @@ node_same : (r : TableId) (l : Tables) (t : ℕ) (w v : Walk) (s z : ℕ) (g h :
 node_same r l t w v s z g h u x a b c d = rw (a, b, c, d) refl
 
 looks : (rails : Rails) (line : Tables) (seat : NodeSeat) (mind : Mind) (scan : ℕ) (log : Record) (turns w value : ℕ) → Parts rails line seat mind scan log
-    → target_of line (walk_of seat).node.0 mind scan ≡ Some w → Finds line (walk_of seat) w value
+    → target_of line (walk_of seat).node.0 mind scan ≡ Some w → LoadFinds line (walk_of seat) w value
     → Looks (node_of rails line seat scan log turns) w value
 looks rails line seat mind scan log turns w value parts target finds =
     let n = (walk_of seat).node.0 in
@@ -52,7 +52,8 @@ pub rests : (rails : Rails) (line : Tables) (seat : NodeSeat) (mind : Mind) (sca
 rests rails line seat mind scan log turns more parts target raised_is =
     let n = (walk_of seat).node.0 in (
       parts.room,
-      subst (λ (m : Mind). is_train_at_rest line n m ≡ true) (sym parts.whole.mind_is) (at_rest line n scan mind parts.whole.there parts.whole.formed target),
+      subst (λ (m : Mind). is_train_at_rest line n m ≡ true) (sym parts.whole.mind_is)
+          (no_target_rests line n scan mind parts.whole.there parts.whole.formed target),
       ap (λ (k : ℕ). node_of rails line seat scan log k) raised_is,
     )
 

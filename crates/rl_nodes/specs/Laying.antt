@@ -4,19 +4,19 @@ use Rattle.rl_base.specs.Layout.{node_count}
 use Rattle.rl_tables.specs.Starts.{layout_of}
 use Rattle.rl_rule.specs.declared.seats.NodeSeat.{NodeSeat}
 use Rattle.rl_rule.specs.declared.rails.Rails.{Rails}
-use Rattle.rl_rule.specs.Seats.{rails_id, line_of, tries_of, handed, taken, seat_id, seat_line, walk_of}
+use Rattle.rl_rule.specs.Seats.{rails_id, rails_line, rails_tries, handed, taken, seat_id, seat_line, walk_of}
 use Rattle.rl_rule.specs.Views.{start_walk}
 use Rattle.rl_nodes.specs.Nodes.{Node}
 
 -- the seat of node n of these rails, which has done nothing yet
 pub record IsStartSeat (rails : Rails) (n : ℕ) (seat : NodeSeat) : Type 0 where
   pub own : seat_id seat ≡ rails_id rails
-  pub line : seat_line seat ≡ line_of rails
-  pub walk : walk_of seat ≡ start_walk (line_of rails) (tries_of rails) n
+  pub line : seat_line seat ≡ rails_line rails
+  pub walk : walk_of seat ≡ start_walk (rails_line rails) (rails_tries rails) n
 
 -- the seats of all nodes of these rails, in order
 pub record AreSeatsOf (rails : Rails) (seats : List NodeSeat) : Type 0 where
-  pub all_handed : handed rails ≡ node_count (layout_of (line_of rails))
+  pub all_handed : handed rails ≡ node_count (layout_of (rails_line rails))
   pub none_taken : taken rails ≡ []
   pub all_here : length seats ≡ handed rails
   pub each : (i : ℕ) (seat : NodeSeat) → slice_get seats i ≡ Some seat → IsStartSeat rails i seat
@@ -26,9 +26,9 @@ abbrev pub start_node : Rails → ℕ → ℕ → Node
 start_node rails limit n =
     record {
       rails = rails_id rails;
-      line = line_of rails;
-      tries = tries_of rails;
-      walk = start_walk (line_of rails) (tries_of rails) n;
+      line = rails_line rails;
+      tries = rails_tries rails;
+      walk = start_walk (rails_line rails) (rails_tries rails) n;
       scan = 0;
       log = record { events = []; limit = limit; spare = 0 };
       turns = 0;

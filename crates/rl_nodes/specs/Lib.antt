@@ -4,6 +4,5 @@ pub mod Looks
 pub mod Laying
 pub mod Parts
 pub mod Parting
-pub mod Lending
 pub mod Left
 pub mod Finished

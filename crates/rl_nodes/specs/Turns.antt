@@ -6,10 +6,10 @@ use Rattle.rl_record.specs.declared.event.Turn.{Turn}
 use Rattle.rl_record.specs.declared.event.Turn.TheVariants.{Moved, Idle, Rest, Full}
 use Rattle.rl_record.specs.Records.{pushed}
 use Rattle.rl_tables.specs.declared.table.Tables.{Tables}
-use Rattle.rl_runs.specs.declared.mind.Mind.{Mind}
-use Rattle.rl_runs.specs.State.{next_stamp, event_at}
-use Rattle.rl_runs.specs.Step.{node_step, target_of, is_ready}
-use Rattle.rl_runs.specs.Turn.{next_place}
+use Rattle.rl_steps.specs.declared.mind.Mind.{Mind}
+use Rattle.rl_steps.specs.State.{next_stamp, event_at}
+use Rattle.rl_steps.specs.Step.{node_step, target_of, is_ready}
+use Rattle.rl_steps.specs.Turn.{next_place}
 use Rattle.rl_rule.specs.declared.views.Walk.{Walk}
 use Rattle.rl_rule.specs.Loads.{Tells, IsAlone, last_value}
 use Rattle.rl_rule.specs.Views.{loaded, stepped}
@@ -34,7 +34,7 @@ pub record IsAtWork (node : Node) : Type 0 where
   pub awake : is_train_at_rest node.line (number node) node.walk.mind ≡ false
 
 -- one load of the word found this value, with what a load tells beside it
-pub record Finds (line : Tables) (walk : Walk) (w value : ℕ) : Type 0 where
+pub record LoadFinds (line : Tables) (walk : Walk) (w value : ℕ) : Type 0 where
   pub tells : Tells walk.history w value
   pub alone : IsAlone line w walk.node.0 → value ≡ last_value line walk.history w
 
@@ -42,7 +42,7 @@ pub record Finds (line : Tables) (walk : Walk) (w value : ℕ) : Type 0 where
 pub record Looks (node : Node) (w value : ℕ) : Type 0 where
   pub at_work : IsAtWork node
   pub target : target_of node.line (number node) node.walk.mind node.scan ≡ Some w
-  pub finds : Finds node.line node.walk w value
+  pub finds : LoadFinds node.line node.walk w value
 
 -- what the node does with the word at this value
 abbrev pub step_on : Node → ℕ → ℕ → Option (ℕ × Mind)

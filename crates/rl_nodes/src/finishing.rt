@@ -1,18 +1,18 @@
-ghost use Rattle.std.specs.Prelude.{◌≡◌, ◌∷◌, ◌++◌, List, reverse, map, IfOk, OnOk, All};
+ghost use Rattle.std.specs.Prelude.{◌≡◌, ◌∷◌, ◌++◌, reverse, map, IfOk, OnOk, All};
 ghost use Rattle.rl_record.specs.Records.{IsMergeOf};
 ghost use Rattle.rl_rule.specs.Seats.{rails_id, seat_id, walk_of, handed, taken, IsSameRails};
 ghost use Rattle.rl_rule.specs.Views.{kept_of};
 ghost use Rattle.rl_nodes.specs.Parts.{AreParts};
 ghost use Rattle.rl_nodes.specs.Left.{with_part};
-ghost use Rattle.rl_nodes.specs.Finished.{records_of, minds_of, IsRunOf, state_of, AreMinds, most_attempts, AreFew};
+ghost use Rattle.rl_nodes.specs.Finished.{records_of, minds_of, IsRunOf, end_state, AreMinds, most_attempts, AreFew};
 
 use crate::parts::{Part, Parts};
 use rl_base::{NoMemory, Sequence};
-use rl_lamport::merged_records;
+use rl_merge::merged_records;
 use rl_record::{Events, Records, merge};
 use rl_rule::{Rails, Words};
-use rl_runs::Mind;
 use rl_safety::counted_events;
+use rl_steps::Mind;
 use std::alloc::Global;
 
 pub type Minds = Sequence<Mind>;
@@ -77,8 +77,8 @@ pub fn finish(alloc: Global, rails: Rails, parts: Parts) -> Result<Finished, NoM
     ensures minds { IfOk result (λ done. done.minds ≡ minds_of parts) }
     ensures merge { IfOk result (λ done. IsMergeOf done.records done.events) }
     ensures run { IfOk result (λ done. IsRunOf rails done.events) }
-    ensures words { IfOk result (λ done. done.words ≡ (state_of rails done.events).words) }
-    ensures last_minds { IfOk result (λ done. AreMinds (state_of rails done.events).minds done.minds) }
+    ensures words { IfOk result (λ done. done.words ≡ (end_state rails done.events).words) }
+    ensures last_minds { IfOk result (λ done. AreMinds (end_state rails done.events).minds done.minds) }
     ensures few { IfOk result (λ done. AreFew (most_attempts rails) done.records done.events) }
 {
     let mut rails = rails;

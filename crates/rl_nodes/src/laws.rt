@@ -1,10 +1,9 @@
 ghost use Rattle.std.specs.Prelude.{◌≡◌, ℕ, List, length, slice_get, Some, true};
 ghost use Rattle.rl_rule.specs.declared.rails.Rails.{Rails};
-ghost use Rattle.rl_rule.specs.Seats.{line_of};
+ghost use Rattle.rl_rule.specs.Seats.{rails_line};
 ghost use Rattle.rl_runner.specs.Turns.{EachTurned};
 ghost use Rattle.rl_nodes.specs.declared.parts.Part.{Part};
 ghost use Rattle.rl_nodes.specs.Nodes.{Node, number, turns_of, rests, is_at_rest, IsHome, AreNodesOf, AreToppedUp};
-ghost use Rattle.rl_nodes.specs.Lending.{replaced};
 ghost use Rattle.rl_nodes.specs.Parting.{ArePartsOf};
 
 /// After rounds the nodes are still all nodes of their rails, in order.
@@ -19,14 +18,9 @@ pub fn topped_up_nodes()
         → AreNodesOf rails limit old → AreNodesOf rails limit new }
 {}
 
-/// What is lent of a list and comes back with as many items is the list then.
-pub fn replaced_all<T>()
-    ensures { (items new : List T) → length new ≡ length items → replaced items new ≡ new }
-{}
-
 /// The part of a node at rest has a mind at rest.
 pub fn parts_at_rest()
     ensures { (rails : Rails) (limit i : ℕ) (nodes : List Node) (parts : List Part) (node : Node) (part : Part)
         → AreNodesOf rails limit nodes → ArePartsOf nodes parts → slice_get nodes i ≡ Some node
-        → slice_get parts i ≡ Some part → rests node ≡ true → is_at_rest (line_of rails) i part.mind ≡ true }
+        → slice_get parts i ≡ Some part → rests node ≡ true → is_at_rest (rails_line rails) i part.mind ≡ true }
 {}

@@ -1,17 +1,17 @@
 ghost use Rattle.std.specs.Prelude.{◌≡◌, ◌<◌, ◌≤◌, IfOk};
+ghost use Rattle.rl_base.specs.declared.limits.TheConstants.{MAX_EVENTS};
+ghost use Rattle.rl_base.specs.Tries.{AreFewTries};
 ghost use Rattle.rl_base.specs.Layout.{node_count};
 ghost use Rattle.rl_tables.specs.Starts.{layout_of};
-ghost use Rattle.rl_rule.specs.Loads.{most_of_node};
-ghost use Rattle.rl_rule.specs.Seats.{line_of, tries_of, walk_of};
+ghost use Rattle.rl_rule.specs.Seats.{rails_line, rails_tries, walk_of};
 ghost use Rattle.rl_nodes.specs.Nodes.{AreNodesOf};
 ghost use Rattle.rl_nodes.specs.Laying.{AreSeatsOf, AreStartNodes, AreLaid, IsStartSeat, start_node};
 
 use crate::nodes::{Nodes, RunNode};
 use rl_base::{NoMemory, Sequence};
-use rl_minds::kept_minds;
 use rl_record::Record;
 use rl_rule::{NodeSeat, Rails};
-use rl_runs::start_mind;
+use rl_steps::{kept_minds, start_mind};
 use rl_tables::Line;
 use std::alloc::Global;
 
@@ -26,10 +26,10 @@ fn lay_node<'a>(
     tries: u32,
     events: u32,
 ) -> RunNode<'a>
-    requires line { line.now ≡ line_of rails.now }
-    requires tries { tries ≡ tries_of rails.now }
-    requires few_tries { tries ≤ 1000 }
-    requires few_events { events ≤ most_of_node }
+    requires line { line.now ≡ rails_line rails.now }
+    requires tries { tries ≡ rails_tries rails.now }
+    requires few_tries { AreFewTries tries }
+    requires few_events { events ≤ MAX_EVENTS }
     requires there { (walk_of seat).node.0 < node_count (layout_of line.now) }
     requires seat { IsStartSeat rails.now (walk_of seat).node.0 seat }
     ensures { result ≡ start_node rails.now events (walk_of seat).node.0 }
@@ -56,10 +56,10 @@ fn laid<'a>(
     tries: u32,
     events: u32,
 ) -> Result<Nodes<'a>, NoMemory>
-    requires line { line.now ≡ line_of rails.now }
-    requires tries { tries ≡ tries_of rails.now }
-    requires few_tries { tries ≤ 1000 }
-    requires few_events { events ≤ most_of_node }
+    requires line { line.now ≡ rails_line rails.now }
+    requires tries { tries ≡ rails_tries rails.now }
+    requires few_tries { AreFewTries tries }
+    requires few_events { events ≤ MAX_EVENTS }
     requires seats { AreSeatsOf rails.now seats }
     ensures { IfOk result (AreLaid rails.now events seats) }
 {
@@ -79,11 +79,11 @@ pub fn lay_nodes<'a>(
     tries: u32,
     events: u32,
 ) -> Result<Nodes<'a>, NoMemory>
-    requires line { line.now ≡ line_of rails.now }
-    requires tries { tries ≡ tries_of rails.now }
-    requires few_tries { tries ≤ 1000 }
+    requires line { line.now ≡ rails_line rails.now }
+    requires tries { tries ≡ rails_tries rails.now }
+    requires few_tries { AreFewTries tries }
     requires some_events { 1 ≤ events }
-    requires few_events { events ≤ most_of_node }
+    requires few_events { events ≤ MAX_EVENTS }
     requires seats { AreSeatsOf rails.now seats }
     ensures nodes { IfOk result (AreNodesOf rails.now events) }
     ensures start { IfOk result (AreStartNodes rails.now events) }

@@ -8,7 +8,6 @@
 pub mod finishing;
 pub mod laws;
 mod laying;
-pub mod list;
 mod look;
 pub mod nodes;
 pub mod parting;
@@ -18,9 +17,8 @@ mod scan;
 pub mod seating;
 
 pub use finishing::{Finished, Minds, finish};
-pub use laws::{kept_nodes, parts_at_rest, replaced_all, topped_up_nodes};
+pub use laws::{kept_nodes, parts_at_rest, topped_up_nodes};
 pub use laying::{Seats, lay_nodes};
-pub use list::NodeList;
 pub use nodes::{Nodes, RunNode};
 pub use parting::part;
 pub use parts::{Part, Parts};

@@ -1,18 +1,15 @@
 ghost use Rattle.std.specs.Prelude.{◌≡◌, ◌<◌, length, Some, None};
+ghost use Rattle.rl_base.specs.declared.limits.TheConstants.{MAX_EVENTS};
 ghost use Rattle.rl_base.specs.Layout.{node_count, word_count};
-ghost use Rattle.rl_words.specs.Stamps.{payload_in};
 ghost use Rattle.rl_tables.specs.Starts.{layout_of};
-ghost use Rattle.rl_runs.specs.Step.{node_step};
-ghost use Rattle.rl_minds.specs.Held.{HasMind};
-ghost use Rattle.rl_rule.specs.Loads.{most_of_node};
-ghost use Rattle.rl_rule.specs.Seats.{rails_id, line_of, seat_id, seat_line, walk_of};
+ghost use Rattle.rl_steps.specs.Held.{HasMind};
+ghost use Rattle.rl_rule.specs.Seats.{rails_id, rails_line, seat_id, seat_line, walk_of};
 ghost use Rattle.rl_nodes.specs.Looks.{IsLook};
 
 use rl_base::WordNo;
-use rl_minds::{act, kept_minds};
 use rl_record::Event;
 use rl_rule::{NodeSeat, Rails};
-use rl_runs::Mind;
+use rl_steps::{Mind, act, kept_minds};
 use rl_tables::Line;
 use rl_words::payload_of;
 
@@ -32,13 +29,13 @@ pub(crate) fn look_at(
     w: WordNo,
 ) -> Look
     requires own { seat_id seat.old ≡ rails_id rails.now }
-    requires line { line_of rails.now ≡ line.now }
+    requires line { rails_line rails.now ≡ line.now }
     requires seat_line { seat_line seat.old ≡ line.now }
     requires there { (walk_of seat.old).node.0 < node_count (layout_of line.now) }
     requires mind { (walk_of seat.old).mind ≡ mind.now }
     requires formed { HasMind line.now (walk_of seat.old).node.0 mind.now }
     requires word { w.0 < word_count (layout_of line.now) }
-    requires room { length (walk_of seat.old).history < most_of_node }
+    requires room { length (walk_of seat.old).history < MAX_EVENTS }
     ensures own { seat_id seat.new ≡ seat_id seat.old }
     ensures line { seat_line seat.new ≡ seat_line seat.old }
     ensures look { IsLook line.now w.0 (walk_of seat.old) (walk_of seat.new) result }

@@ -4,16 +4,14 @@ ghost use Rattle.rl_runner.specs.Turns.{raised};
 ghost use Rattle.rl_nodes.specs.Nodes.{IsReady, IsToppedUp};
 ghost use Rattle.rl_nodes.specs.Turns.{IsTurn};
 
-use crate::list::NodeList;
 use crate::look::{Look, look_at};
 use crate::scan::scan_after;
-use rl_base::{NoMemory, NodeNo};
-use rl_minds::target;
-use rl_minds::who::{Who, identify};
+use rl_base::{NoMemory, NodeNo, Sequence};
 use rl_record::{Record, Turn};
 use rl_rule::{NodeSeat, Rails};
 use rl_runner::Turner;
-use rl_runs::Mind;
+use rl_steps::who::{Who, identify};
+use rl_steps::{Mind, target};
 use rl_tables::Line;
 use std::marker::Model;
 
@@ -135,4 +133,4 @@ impl<'a> Turner for RunNode<'a> {
 }
 
 /// Nodes of some rails.
-pub type Nodes<'a> = NodeList<RunNode<'a>>;
+pub type Nodes<'a> = Sequence<RunNode<'a>>;

@@ -1,4 +1,4 @@
-ghost use Rattle.std.specs.Prelude.{ℕ, ◌≡◌, IfOk};
+ghost use Rattle.std.specs.Prelude.{ℕ, IfOk};
 ghost use Rattle.rl_rule.specs.declared.rails.Rails.{Rails};
 ghost use Rattle.rl_nodes.specs.Nodes.{AreNodesOf};
 ghost use Rattle.rl_nodes.specs.Parts.{AreParts};

@@ -4,7 +4,7 @@ ghost use Rattle.rl_rule.specs.Seats.{walk_of};
 use rl_base::Sequence;
 use rl_record::Record;
 use rl_rule::NodeSeat;
-use rl_runs::Mind;
+use rl_steps::Mind;
 
 /// What is left of a node when it is parted: its seat, its mind and its record.
 #[derive(Drop)]

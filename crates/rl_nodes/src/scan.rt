@@ -1,9 +1,9 @@
 ghost use Rattle.std.specs.Prelude.{◌≡◌, ◌≤◌, length};
-ghost use Rattle.rl_runs.specs.Step.{is_ready};
+ghost use Rattle.rl_steps.specs.Step.{is_ready};
 ghost use Rattle.rl_nodes.specs.Turns.{scan_after};
 
 use rl_box::Work;
-use rl_runs::Mind;
+use rl_steps::Mind;
 use rl_tables::Line;
 
 /// Whether the node is a box that has nothing in hand.

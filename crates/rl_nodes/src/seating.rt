@@ -1,5 +1,5 @@
 ghost use Rattle.std.specs.Prelude.{◌≡◌, [], IfOk};
-ghost use Rattle.rl_rule.specs.Seats.{line_of, handed, taken, IsSameRails};
+ghost use Rattle.rl_rule.specs.Seats.{rails_line, handed, taken, IsSameRails};
 ghost use Rattle.rl_nodes.specs.Laying.{AreSeatsOf};
 
 use crate::laying::Seats;
@@ -10,7 +10,7 @@ use std::alloc::Global;
 
 /// Hands every node of these rails its seat, in order.
 pub fn all_seats(alloc: Global, rails: &mut Rails, line: &Line) -> Result<Seats, NoMemory>
-    requires line { line.now ≡ line_of rails.old }
+    requires line { line.now ≡ rails_line rails.old }
     requires first { handed rails.old ≡ 0 }
     requires none_taken { taken rails.old ≡ [] }
     ensures rails { IsSameRails rails.old rails.new }

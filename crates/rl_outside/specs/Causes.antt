@@ -1,6 +1,7 @@
 -- When a count of faults rises, and what follows from the answer to a fetch.
-use Rattle.std.specs.Prelude.{◌≡◌, ℕ, ◌+◌, ◌-◌, ◌^◌, ◌<◌, ◌≤◌, nat_le, min, List, [], ◌∷◌, ◌++◌, count_by, Result, Ok, Err, if◌then◌else◌}
+use Rattle.std.specs.Prelude.{◌≡◌, ℕ, ◌+◌, ◌<◌, ◌≤◌, nat_le, min, List, [], ◌∷◌, ◌++◌, count_by, Result, Ok, Err, if◌then◌else◌}
 use Rattle.std.specs.Str.{bytes_eq}
+use Rattle.rl_base.specs.Numbers.{greatest_u64}
 use Rattle.rl_outside.specs.declared.files.Fetch.{Fetch}
 use Rattle.rl_outside.specs.declared.files.Fetch.TheVariants.{Failed, TooLong, NoMemory}
 
@@ -10,7 +11,7 @@ Rose before now = before < now
 
 -- a sink's count of faults rose, or stands at the greatest u64, where it stays
 abbrev pub RoseOrFull : ℕ → ℕ → Type 0
-RoseOrFull before now = min (before + 1) (2 ^ 64 - 1) ≤ now
+RoseOrFull before now = min (before + 1) greatest_u64 ≤ now
 
 -- a name's count of faults, before and after a fetch of it with this answer: it rises where the fetch failed, and
 -- at no other answer

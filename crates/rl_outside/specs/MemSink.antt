@@ -1,5 +1,6 @@
 -- A sink in memory, and what a put makes of it.
-use Rattle.std.specs.Prelude.{ℕ, ◌+◌, ◌-◌, ◌^◌, min, List, ◌++◌, length, if◌then◌else◌}
+use Rattle.std.specs.Prelude.{ℕ, ◌+◌, ◌-◌, min, List, ◌++◌, length, if◌then◌else◌}
+use Rattle.rl_base.specs.Numbers.{greatest_u64}
 use Rattle.rl_outside.specs.Numbering.{number_after, fails_at}
 
 -- a sink in memory: the bytes that it took, how many it can hold, how many it takes at most in one put,
@@ -23,9 +24,9 @@ after_put sink taken = record sink { bytes = sink.bytes ++ taken; puts = number_
 
 -- the sink's count of faults, at most the greatest u64
 abbrev pub faults_of : MemSinkState → ℕ
-faults_of sink = min sink.faults (2 ^ 64 - 1)
+faults_of sink = min sink.faults greatest_u64
 
 -- the sink after a put that failed
 abbrev pub after_fault : MemSinkState → MemSinkState
 after_fault sink =
-    record sink { puts = number_after sink.puts; faults = min (sink.faults + 1) (2 ^ 64 - 1) }
+    record sink { puts = number_after sink.puts; faults = min (sink.faults + 1) greatest_u64 }

@@ -82,7 +82,7 @@ fn read_piece<F: Read>(file: &mut F, bytes: &mut Vec<u8>, limit: usize) -> Resul
 }
 
 /// Reads a file to its end, where that comes within the limit.
-fn read_whole<F: Read>(file: &mut F, alloc: Global, limit: usize) -> Result<Vec<u8>, Fetch>
+pub fn read_whole<F: Read>(file: &mut F, alloc: Global, limit: usize) -> Result<Vec<u8>, Fetch>
     ensures within { IfOk result (λ bytes. length bytes.items ≤ limit) }
     ensures whole { IfOk result (λ bytes. IfSome (F.remaining file.old) (λ there. bytes.items ≡ there)) }
     ensures too_long { IsErrOf result Fetch.TooLong → IfSome (F.remaining file.old) (λ there. limit < length there) }
@@ -128,31 +128,5 @@ impl<R: std::rt::Files> Files for DirFiles<'_, R> {
     {
         let answer = read_opened(fs::open(self.rt, name), alloc, limit);
         noted(self.alloc, &mut self.failed, name, answer)
-    }
-}
-
-#[cfg(test)]
-mod tests {
-    use super::*;
-
-    /// A file with no end, which counts the bytes that it gave.
-    struct Endless {
-        given: usize,
-    }
-
-    impl Read for Endless {
-        fn read(&mut self, buf: &mut [u8]) -> io::Result<usize> {
-            self.given = self.given.saturating_add(buf.len());
-            Ok(buf.len())
-        }
-    }
-
-    #[test]
-    fn a_file_is_read_one_byte_past_the_limit(rt: HostRuntime) {
-        let mut file = Endless { given: 0 };
-        let answer = read_whole(&mut file, rt.alloc(), 5000);
-        assert_eq!(rt; answer.err(), Some(Fetch::TooLong));
-        assert_eq!(rt; file.given, 5001);
-        let Endless { given: _ } = file;
     }
 }

@@ -1,6 +1,7 @@
-ghost use Rattle.std.specs.Prelude.{◌≡◌, ◌<◌, ◌≤◌, ◌-◌, ◌^◌, [], Some, length, min, take, IfOk, OnErr, if◌then◌else◌};
+ghost use Rattle.std.specs.Prelude.{◌≡◌, ◌<◌, ◌≤◌, [], Some, length, min, take, IfOk, OnErr, if◌then◌else◌};
 ghost use Rattle.std.specs.Result.{OkIff};
 ghost use Rattle.std.proofs.Math.Nat.{min-le_right};
+ghost use Rattle.rl_base.specs.Numbers.{greatest_u64};
 ghost use Rattle.rl_outside.specs.MemSink.{size_of_put, after_put, after_fault, faults_of};
 
 use crate::sink::{Sink, SinkFault};
@@ -81,7 +82,7 @@ impl Sink for MemSink {
 
     ghost faults = { faults_of };
 
-    ghost bounded = { λ sink. min-le_right sink.faults (2 ^ 64 - 1) };
+    ghost bounded = { λ sink. min-le_right sink.faults greatest_u64 };
 
     /// Takes the least of the piece's length, what one put takes at most, and the room left. Fails where
     /// that is 0 or the put's number is a failing one. Takes no memory.

@@ -1,5 +1,6 @@
-ghost use Rattle.std.specs.Prelude.{◌≡◌, ℕ, ◌≤◌, ◌<◌, ◌^◌, ◌-◌, List, [], Option, length, IfOk, OnOk, OnErr, IsOk};
+ghost use Rattle.std.specs.Prelude.{◌≡◌, ℕ, ◌≤◌, ◌<◌, ◌-◌, List, [], Option, length, IfOk, OnOk, OnErr, IsOk};
 ghost use Rattle.std.specs.Io.KnownBytes.{Appends, WriteAppends};
+ghost use Rattle.rl_base.specs.Numbers.{greatest_u64};
 ghost use Rattle.rl_outside.specs.Causes.{RoseOrFull};
 ghost use Rattle.rl_outside.specs.Sink.{AppendsPart};
 
@@ -27,7 +28,7 @@ pub trait Sink {
         ensures cause { OnErr result (RoseOrFull (faults self.old) (faults self.new)) }
         ensures later { faults self.old ≤ faults self.new };
 
-    ghost bounded: { (s : Self) → faults s ≤ 2 ^ 64 - 1 };
+    ghost bounded: { (s : Self) → faults s ≤ greatest_u64 };
 }
 
 /// Puts the whole text, piece by piece. Where a put fails, the bytes before it were taken and nothing

@@ -1,6 +1,7 @@
-ghost use Rattle.std.specs.Prelude.{◌≡◌, ◌+◌, ◌-◌, ◌^◌, ◌<◌, ◌≤◌, min, length, IfOk, OnOk, OnErr};
+ghost use Rattle.std.specs.Prelude.{◌≡◌, ◌+◌, ◌-◌, ◌<◌, ◌≤◌, min, length, IfOk, OnOk, OnErr};
 ghost use Rattle.std.specs.Io.KnownBytes.{WriteAppends};
 ghost use Rattle.std.proofs.Math.Nat.{min-le_right};
+ghost use Rattle.rl_base.specs.Numbers.{greatest_u64};
 ghost use Rattle.rl_outside.specs.Sink.{taken_by};
 
 use crate::sink::{Sink, SinkFault};
@@ -57,16 +58,16 @@ fn taken(answer: io::Result<usize>) -> Result<usize, SinkFault>
 impl<W: Write> Sink for WriterSink<W> {
     ghost written = { λ s. W.contents s.to };
 
-    ghost faults = { λ s. min s.faults (2 ^ 64 - 1) };
+    ghost faults = { λ s. min s.faults greatest_u64 };
 
-    ghost bounded = { λ s. min-le_right s.faults (2 ^ 64 - 1) };
+    ghost bounded = { λ s. min-le_right s.faults greatest_u64 };
 
     /// Writes once. A write that takes no byte counts as a fault.
     fn put(&mut self, piece: &[u8]) -> Result<usize, SinkFault>
         ensures within { IfOk result (λ n. (0 < n) × (n ≤ length piece.now)) }
         ensures bytes { WriteAppends (W.contents self.old.to) (W.contents self.new.to) result piece.now }
         ensures after_ok { OnOk result (self.new.faults ≡ self.old.faults) }
-        ensures after_err { OnErr result (self.new.faults ≡ min (self.old.faults + 1) (2 ^ 64 - 1)) }
+        ensures after_err { OnErr result (self.new.faults ≡ min (self.old.faults + 1) greatest_u64) }
     {
         let answer = taken(self.to.write(piece));
         if answer.is_err() {

@@ -1,9 +1,11 @@
+//! What the outside does where no command comes: a file put again, a sink that runs full, files of a folder, a file
+//! with no end.
 use super::*;
-use rl_base::{NodeNo, WordNo};
-use std::fs;
-use std::io::Cursor;
+use crate::dir_files::read_whole;
+use std::io::{Cursor, Read};
 use std::process::Abort;
 use std::test::Fail;
+use std::{fs, io};
 
 /// Fetches each name within its limit, in this order, and compares the answers.
 fn fetch_in_order<F: Files>(
@@ -19,62 +21,6 @@ fn fetch_in_order<F: Files>(
         };
         assert_eq!(rt; got, *want, "{name} within {limit}");
     }
-}
-
-#[test]
-fn files_in_memory_are_fetched(rt: HostRuntime) -> Result<(), Fail> {
-    let mut files = MemFiles::new(rt.alloc(), &[1])?;
-    files.add("a", b"one")?;
-    files.add("b", b"two")?;
-    files.add("a", b"three")?;
-    fetch_in_order(
-        &rt,
-        &mut files,
-        &[
-            ("a", 5, Ok(b"three")),
-            ("a", 5, Err(Fetch::Failed)),
-            ("a", 4, Err(Fetch::TooLong)),
-            ("c", 5, Err(Fetch::Failed)),
-            ("b", 3, Ok(b"two")),
-            ("c", 5, Err(Fetch::Failed)),
-        ],
-    );
-    for (name, want) in [("a", 1), ("b", 0), ("c", 2)] {
-        assert_eq!(rt; files.failed(name), want, "{name}");
-    }
-    Ok(())
-}
-
-#[test]
-fn a_sink_in_memory_takes_what_it_can(rt: HostRuntime) -> Result<(), Fail> {
-    let mut sink = MemSink::new(rt.alloc(), 20, 16, &[2])?;
-    let table: [(&[u8], Result<usize, SinkFault>); 5] = [
-        (b"relis report 1\ntries", Ok(16)),
-        (b"ri", Ok(2)),
-        (b"es", Err(SinkFault)),
-        (b"es 100", Ok(2)),
-        (b"!", Err(SinkFault)),
-    ];
-    for (piece, want) in table {
-        assert_eq!(rt; sink.put(piece), want, "{piece:?}");
-    }
-    let taken: &[u8] = b"relis report 1\ntries";
-    assert_eq!(rt; sink.bytes(), taken);
-    Ok(())
-}
-
-#[test]
-fn a_text_is_put_in_pieces(rt: HostRuntime) -> Result<(), Fail> {
-    let text: &[u8] = b"relis report 1\ntries 100\nend\n";
-    let mut whole = MemSink::new(rt.alloc(), 64, 16, &[])?;
-    assert_eq!(rt; put_all(&mut whole, text), Ok(()));
-    assert_eq!(rt; whole.bytes(), text);
-    let mut part = MemSink::new(rt.alloc(), 64, 16, &[1])?;
-    assert_eq!(rt; put_all(&mut part, b""), Ok(()));
-    assert_eq!(rt; put_all(&mut part, text), Err(SinkFault));
-    let taken: &[u8] = b"relis report 1\nt";
-    assert_eq!(rt; part.bytes(), taken);
-    Ok(())
 }
 
 #[test]
@@ -100,8 +46,22 @@ fn files_of_the_folder_are_fetched(rt: HostRuntime) -> Result<(), Fail> {
 }
 
 #[test]
-fn a_writer_takes_what_it_can(rt: HostRuntime) {
-    let mut sink = WriterSink::over(Cursor::new([0u8; 4]));
+fn files_in_memory_are_replaced(rt: HostRuntime) -> Result<(), Fail> {
+    let mut files = MemFiles::new(rt.alloc(), &[])?;
+    files.add("a", b"one")?;
+    files.add("a", b"three")?;
+    let table: [(&str, usize, Result<&[u8], Fetch>); 3] = [
+        ("a", 5, Ok(b"three")),
+        ("c", 5, Err(Fetch::Failed)),
+        ("c", 5, Err(Fetch::Failed)),
+    ];
+    fetch_in_order(&rt, &mut files, &table);
+    assert!(rt; files.failed("a") == 0 && files.failed("c") == 2);
+    Ok(())
+}
+
+/// Puts three pieces where there is room for four bytes.
+fn assert_runs_full<K: Sink>(rt: &impl Abort, sink: &mut K) {
     let table: [(&[u8], Result<usize, SinkFault>); 3] = [
         (b"abc", Ok(3)),
         (b"de", Ok(1)),
@@ -113,17 +73,40 @@ fn a_writer_takes_what_it_can(rt: HostRuntime) {
 }
 
 #[test]
-fn standard_output_takes_a_text(rt: HostRuntime) {
-    let mut sink = StdSink::new(&rt);
-    assert_eq!(rt; put_all(&mut sink, b"a text\n"), Ok(()));
-}
-
-fn pass_and_tell<G: Gate>(gate: &G) {
-    gate.pass(NodeNo(0));
-    gate.moved(NodeNo(0), 1, WordNo(1), 0, 1);
+fn a_sink_takes_what_it_can(rt: HostRuntime) -> Result<(), Fail> {
+    assert_runs_full(&rt, &mut WriterSink::over(Cursor::new([0u8; 4])));
+    let mut sink = MemSink::new(rt.alloc(), 4, 16, &[])?;
+    assert_runs_full(&rt, &mut sink);
+    assert_eq!(rt; sink.bytes(), b"abcd".as_slice());
+    Ok(())
 }
 
 #[test]
-fn an_open_gate_lets_pass() {
-    pass_and_tell(&OpenGate);
+fn a_text_is_put_in_pieces(rt: HostRuntime) -> Result<(), Fail> {
+    let mut sink = MemSink::new(rt.alloc(), 8, 3, &[])?;
+    assert_eq!(rt; put_all(&mut sink, b""), Ok(()));
+    assert_eq!(rt; put_all(&mut sink, b"end\nend\n"), Ok(()));
+    assert_eq!(rt; sink.bytes(), b"end\nend\n".as_slice());
+    Ok(())
+}
+
+/// A file with no end, which counts the bytes that it gave.
+struct Endless {
+    given: usize,
+}
+
+impl Read for Endless {
+    fn read(&mut self, buf: &mut [u8]) -> io::Result<usize> {
+        self.given = self.given.saturating_add(buf.len());
+        Ok(buf.len())
+    }
+}
+
+#[test]
+fn a_file_is_read_one_byte_past_the_limit(rt: HostRuntime) {
+    let mut file = Endless { given: 0 };
+    let answer = read_whole(&mut file, rt.alloc(), 5000);
+    assert_eq!(rt; answer.err(), Some(Fetch::TooLong));
+    assert_eq!(rt; file.given, 5001);
+    let Endless { given: _ } = file;
 }

@@ -15,7 +15,7 @@ use Rattle.rl_base.specs.Kind.{arms_of, are_arms, arms_join}
 use Rattle.rl_model.specs.declared.network.NetworkPlan.{NetworkPlan}
 use Rattle.rl_model.specs.declared.network.Segment.{Segment}
 use Rattle.rl_model.specs.Network.{IsNetwork, arm_at, arm_of, kind_of, joined, connects, can_connect, segment_at}
-use Rattle.rl_model.proofs.Arms.{IsAtArm, IsAtArm-from_arm, arm_at_cases, segment_there, arms_few}
+use Rattle.rl_plan.proofs.Arms.{IsAtArm, IsAtArm-from_arm, arm_at_cases, segment_there, arms_few}
 use Rattle.rl_plan.specs.Walks.{AreNeighbours}
 
 -- two arms in either order

@@ -1,3 +1,4 @@
+pub mod Arms
 pub mod BothWays
 pub mod Shortest
 pub mod Around

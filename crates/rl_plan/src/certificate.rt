@@ -26,7 +26,7 @@ fn rises_at(net: &Network, levels: &[Option<u32>], b: BoxId, s: SegId, n: u32) -
     ensures { IsTrue result ↔ ((r : ℕ) → AreNeighbours net.now b.0 s.0 r → RisesTo n (level_of levels.now r)) }
 {
     // What acceptance gave, for the proof.
-    let _boxes = net.boxes();
+    net.accepted();
     for y in 0..4 {
         if let Some(r) = neighbour_at(net, b, s, Arm(y)) {
             if !rises_to(level_of(levels, r), n) {
@@ -47,7 +47,7 @@ fn rises_around(net: &Network, levels: &[Option<u32>], s: SegId) -> bool
         return true;
     };
     // What acceptance gave, for the proof.
-    let _boxes = net.boxes();
+    net.accepted();
     let (low, high) = net.ends(s);
     rises_at(net, levels, low.0, s, n) && rises_at(net, levels, high.0, s, n)
 }

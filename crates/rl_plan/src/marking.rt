@@ -49,7 +49,7 @@ fn mark_through(net: &Network, levels: &mut [Option<u32>], b: BoxId, s: SegId, n
     ensures marks { (r : ℕ) → AreNeighbours net.now b.0 s.0 r → IsMarked levels.new r }
 {
     // What acceptance gave, for the proof.
-    let _boxes = net.boxes();
+    net.accepted();
     let mut more = false;
     for y in 0..4 {
         let new = mark_at(net, levels, b, s, Arm(y), n);
@@ -68,7 +68,7 @@ fn mark_around(net: &Network, levels: &mut [Option<u32>], s: SegId, n: u32) -> b
     ensures marks { (b r : ℕ) → AreNeighbours net.now b s.0 r → IsMarked levels.new r }
 {
     // What acceptance gave, for the proof.
-    let _boxes = net.boxes();
+    net.accepted();
     let (low, high) = net.ends(s);
     let first = mark_through(net, levels, low.0, s, n);
     let second = mark_through(net, levels, high.0, s, n);

@@ -26,7 +26,7 @@ pub(crate) fn neighbour_at(net: &Network, b: BoxId, s: SegId, y: Arm) -> Option<
     ensures none { IfNone result ((r : ℕ) → segment_at net.now b.0 y.0 ≡ Some r → ¬ AreNeighbours net.now b.0 s.0 r) }
 {
     // What acceptance gave, for the proof.
-    let _boxes = net.boxes();
+    net.accepted();
     let Some(r) = net.arm(b, y) else {
         return None;
     };

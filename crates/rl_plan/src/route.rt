@@ -42,7 +42,7 @@ fn lowest(net: &Network, levels: &[Option<u32>], b: BoxId, s: SegId, n: u32) -> 
     ensures { IsLowest net.now levels.now b.0 s.0 n result }
 {
     // What acceptance gave, for the proof.
-    let _boxes = net.boxes();
+    net.accepted();
     let mut best = None;
     for y in 0..4 {
         best = lower(best, next_at(net, levels, b, s, n, Arm(y)));
@@ -57,7 +57,7 @@ fn chosen(net: &Network, levels: &[Option<u32>], s: SegId, n: u32) -> Option<Pla
     ensures none { IfNone result ((step : PlanStep) → ¬ LeadsTo net.now levels.now s.0 n step) }
 {
     // What acceptance gave, for the proof.
-    let _boxes = net.boxes();
+    net.accepted();
     let (low, high) = net.ends(s);
     if let Some(r) = lowest(net, levels, low.0, s, n) {
         return Some(PlanStep { b: low.0, s: r });

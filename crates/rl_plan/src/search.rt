@@ -23,7 +23,7 @@ fn search(net: &Network, to: SegId, levels: &mut [Option<u32>])
     ensures { (n : ℕ) × IsSearched net.now to.0 n false levels.new }
 {
     // What acceptance gave, for the proof.
-    let _segments = net.segments();
+    net.accepted();
     let mut n = 0;
     let mut more = true;
     while more {

@@ -5,8 +5,8 @@ use Rattle.std.proofs.lemmas.Bool.Decides.{nat_tests}
 use Rattle.rl_base.specs.declared.ids.TrainId.{TrainId}
 use Rattle.rl_protocol.specs.Line.{Line, is_held_by, IsConsistent}
 use Rattle.rl_protocol.specs.State.{State, start}
-use Rattle.rl_protocol.specs.Steps.{Step, Fits, next}
-use Rattle.rl_protocol.specs.Runs.{state_after, IsRun}
+use Rattle.rl_protocol.specs.Steps.{Step, StepFits, next}
+use Rattle.rl_protocol.specs.Runs.{state_after, IsStepRun}
 use Rattle.rl_protocol.specs.Agreement.{Agrees}
 use Rattle.rl_protocol.proofs.Jobs.{starts_holding, starts_unlocked, starts_standing, starts_closed, starts_beginning}
 use Rattle.rl_protocol.proofs.Known.{Known, known}
@@ -19,10 +19,10 @@ use Rattle.rl_protocol.proofs.Reservations.{reserved_kept, free_kept}
 use Rattle.rl_protocol.proofs.LockHolds.{locked_kept}
 
 -- what is known of a step that fits a state that agrees
-pub known_of : (line : Line) (tries : ℕ) (s : State) (step : Step) → Agrees line tries s → Fits line s step → Known line s step
+pub known_of : (line : Line) (tries : ℕ) (s : State) (step : Step) → Agrees line tries s → StepFits line s step → Known line s step
 known_of line tries s step old fits = known line s step old.mailboxes old.locks fits
 
-pub agrees_next : (line : Line) (tries : ℕ) (s : State) (step : Step) → IsConsistent line → Agrees line tries s → Fits line s step
+pub agrees_next : (line : Line) (tries : ℕ) (s : State) (step : Step) → IsConsistent line → Agrees line tries s → StepFits line s step
     → Agrees line tries (next line s step)
 agrees_next line tries s step laws old fits =
     let known = known_of line tries s step old fits in
@@ -82,6 +82,6 @@ agrees_start line tries laws =
       };
     }
 
-pub agrees : (line : Line) (tries : ℕ) (steps : List Step) → IsConsistent line → IsRun line tries steps → Agrees line tries (state_after line tries steps)
+pub agrees : (line : Line) (tries : ℕ) (steps : List Step) → IsConsistent line → IsStepRun line tries steps → Agrees line tries (state_after line tries steps)
 agrees line tries [] laws run = agrees_start line tries laws
 agrees line tries (step ∷ steps) laws run = agrees_next line tries (state_after line tries steps) step laws (agrees line tries steps laws run.0) run.1

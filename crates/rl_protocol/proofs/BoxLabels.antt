@@ -1,5 +1,6 @@
 -- Each line of the sentences of a box is a step of the whole state.
-use Rattle.std.proofs.Common.{◌≡◌, ◌≢◌, ℕ, ◌<◌, ◌≤◌, ◌==◌, Bool, true, false, cond, slice_get, Option, Some, None, option_and_then, refl, sym, ap, ◌∙◌, subst, arith}
+use Rattle.std.proofs.Common.{◌≡◌, ◌≢◌, ℕ, ◌<◌, ◌≤◌, ◌==◌, Bool, true, false, cond, slice_get, Option, Some, None, option_and_then, refl, sym, ap, ◌∙◌, subst}
+use Rattle.std.proofs.Common.{arith}
 use Rattle.std.specs.Prelude.{nat_lt, is_some, option_map}
 use Rattle.std.specs.Option.{option_map_or}
 use Rattle.std.proofs.Math.Path.{fun_ext}
@@ -33,13 +34,15 @@ use Rattle.rl_box.specs.declared.mind.Work.{Work}
 use Rattle.rl_box.specs.declared.mind.Work.TheVariants.{Ready, Serve, Say}
 use Rattle.rl_box.specs.Mind.{box_at}
 use Rattle.rl_box.specs.Steps.{BoxStep, has_arms, path_of, other_side}
-use Rattle.rl_box.specs.Steps.BoxStep.{take as takes, reserve as reserves, refuse as refuses, release as releases, lock as lock_it, ask as asks_points, moved as sees_moved, unlock as unlocks, say_yes as says_yes, say_refused as says_refused, say_barred as says_barred, busy as is_busy}
+use Rattle.rl_box.specs.Steps.BoxStep.{take as takes, reserve as reserves, refuse as refuses, release as releases, lock as lock_it, ask as asks_points}
+use Rattle.rl_box.specs.Steps.BoxStep.{moved as sees_moved, unlock as unlocks, say_yes as says_yes, say_refused as says_refused, say_barred as says_barred}
+use Rattle.rl_box.specs.Steps.BoxStep.{busy as is_busy}
 use Rattle.rl_protocol.specs.State.{State, put, put_at}
 use Rattle.rl_protocol.specs.Minds.{train, box, row_of, names_arms}
 use Rattle.rl_protocol.specs.Steps.{take, grant, refuse, release, lock_now, lock_ask, lock_moved, unlock, say_yes, say_no, busy}
 use Rattle.rl_protocol.specs.Agreement.{Agrees}
 use Rattle.rl_protocol.specs.TableLine.{line_of}
-use Rattle.rl_protocol.specs.Sentences.{holder_in, HasWord, with_box, Makes}
+use Rattle.rl_protocol.specs.Sentences.{holder_in, StateSays, with_box, MakesStep}
 use Rattle.rl_protocol.proofs.Known.{taken}
 use Rattle.rl_protocol.proofs.Letters.{row_arms, letter_arm}
 use Rattle.rl_protocol.proofs.Paths.{waiting_within}
@@ -57,13 +60,13 @@ mind_with : (m : BoxMind) (work new : Work) (waiting : Option Path) → m ≡ bo
 mind_with m work new waiting h = ap (λ x. reworked x new) h
 
 -- a word that is written as it was
-same_lock : (lock : ℕ → LockWord) (b : ℕ) (v : LockWord) → lock b ≡ v → lock ≡ put lock b v
+pub same_lock : (lock : ℕ → LockWord) (b : ℕ) (v : LockWord) → lock b ≡ v → lock ≡ put lock b v
 same_lock lock b v h = fun_ext (λ c. at c)
   where
     at : (c : ℕ) → lock c ≡ put lock b v c
     at c = grind (arith, nat_tests)
 
-same_resv : (resv : ℕ → ℕ → Option TrainId) (b : ℕ) (v : ResvWord) → ((x : ℕ) → resv b x ≡ holder_in v x)
+pub same_resv : (resv : ℕ → ℕ → Option TrainId) (b : ℕ) (v : ResvWord) → ((x : ℕ) → resv b x ≡ holder_in v x)
     → resv ≡ (λ c x. cond (c == b) (holder_in v x) (resv c x))
 same_resv resv b v h = fun_ext (λ c. fun_ext (λ x. at c x))
   where
@@ -74,7 +77,7 @@ same_resv resv b v h = fun_ext (λ c. fun_ext (λ x. at c x))
 one_arm : (w : ResvWord) (x y : ℕ) (o : Option TrainId) → x < 4 → holder_in (with_arm w x o) y ≡ cond (y == x) o (holder_in w y)
 one_arm w x y o h = grind (arith, nat_tests)
 
-new_resv : (resv : ℕ → ℕ → Option TrainId) (b x : ℕ) (v : ResvWord) (o : Option TrainId) → x < 4 → ((y : ℕ) → resv b y ≡ holder_in v y)
+pub new_resv : (resv : ℕ → ℕ → Option TrainId) (b x : ℕ) (v : ResvWord) (o : Option TrainId) → x < 4 → ((y : ℕ) → resv b y ≡ holder_in v y)
     → put_at resv b x o ≡ (λ c y. cond (c == b) (holder_in (with_arm v x o) y) (resv c y))
 new_resv resv b x v o four h = fun_ext (λ c. fun_ext (λ y. at c y))
   where
@@ -85,7 +88,7 @@ new_resv resv b x v o four h = fun_ext (λ c. fun_ext (λ y. at c y))
 pub four_arms : (w : ResvWord) (x : ℕ) → x < 4 → holder_in w x ≡ arm_in w x
 four_arms w x h = ap (λ c. cond c (arm_in w x) None) (lt-ltb x 4 h)
 
-few_arms : (kind : Kind) → arms_of kind ≤ 4
+pub few_arms : (kind : Kind) → arms_of kind ≤ 4
 few_arms Buffer = omega arith
 few_arms Joint = omega arith
 few_arms Point = omega arith
@@ -127,13 +130,13 @@ module _ (tables : Tables) (s : State) (b : ℕ) (table : BoxTable) (line : IsLi
       let few = few_arms table.kind in
       omega arith
 
-  at_resv : (v : ResvWord) (mind : BoxMind) → Makes (line_of tables) s (nodes.Box (box b)) (Resv (box b) v) (with_box s b mind)
-      → Makes (line_of tables) s (nodes.Box (box b)) (Resv table.number v) (with_box s b mind)
-  at_resv v mind h = subst (λ n. Makes (line_of tables) s (nodes.Box (box b)) (Resv n v) (with_box s b mind)) (sym number) h
+  at_resv : (v : ResvWord) (mind : BoxMind) → MakesStep (line_of tables) s (nodes.Box (box b)) (Resv (box b) v) (with_box s b mind)
+      → MakesStep (line_of tables) s (nodes.Box (box b)) (Resv table.number v) (with_box s b mind)
+  at_resv v mind h = subst (λ n. MakesStep (line_of tables) s (nodes.Box (box b)) (Resv n v) (with_box s b mind)) (sym number) h
 
-  at_lock : (v : LockWord) (mind : BoxMind) → Makes (line_of tables) s (nodes.Box (box b)) (Lock (box b) v) (with_box s b mind)
-      → Makes (line_of tables) s (nodes.Box (box b)) (Lock table.number v) (with_box s b mind)
-  at_lock v mind h = subst (λ n. Makes (line_of tables) s (nodes.Box (box b)) (Lock n v) (with_box s b mind)) (sym number) h
+  at_lock : (v : LockWord) (mind : BoxMind) → MakesStep (line_of tables) s (nodes.Box (box b)) (Lock (box b) v) (with_box s b mind)
+      → MakesStep (line_of tables) s (nodes.Box (box b)) (Lock table.number v) (with_box s b mind)
+  at_lock v mind h = subst (λ n. MakesStep (line_of tables) s (nodes.Box (box b)) (Lock n v) (with_box s b mind)) (sym number) h
 
   -- the state with the mind and one word written
   written : (resv : ℕ → ℕ → Option TrainId) (lock : ℕ → LockWord) (m n : BoxMind) → m ≡ n
@@ -141,7 +144,7 @@ module _ (tables : Tables) (s : State) (b : ℕ) (table : BoxTable) (line : IsLi
   written resv lock m n h = ap (λ x. record s { boxes = put s.boxes b x; resv = resv; lock = lock }) h
 
   pub box_makes : (tries : ℕ) (before : BoxMind) (w v : Word) (mind : BoxMind) → Agrees (line_of tables) tries s → s.boxes b ≡ before
-      → BoxStep table before w v mind → HasWord s w → Makes (line_of tables) s (nodes.Box (box b)) v (with_box s b mind)
+      → BoxStep table before w v mind → StateSays s w → MakesStep (line_of tables) s (nodes.Box (box b)) v (with_box s b mind)
   box_makes tries before w v mind agrees is (takes t l waiting to arms) has =
       record {
         step = take b t.0 l;
@@ -207,10 +210,10 @@ module _ (tables : Tables) (s : State) (b : ℕ) (table : BoxTable) (line : IsLi
   box_makes tries before w v mind agrees is (sees_moved p) has =
       moved_makes
     where
-      moved_makes : Makes (line_of tables) s (nodes.Box (box b)) (Lock table.number (Locked p))
+      moved_makes : MakesStep (line_of tables) s (nodes.Box (box b)) (Lock table.number (Locked p))
           (with_box s b (box_at (Say p.train (about_passage table.number verbs.Lock p.x p.y) answers.Yes) None))
       moved_makes =
-          subst (λ n. Makes (line_of tables) s (nodes.Box (box b)) (Lock n (Locked p))
+          subst (λ n. MakesStep (line_of tables) s (nodes.Box (box b)) (Lock n (Locked p))
           (with_box s b (box_at (Say p.train (about_passage n verbs.Lock p.x p.y) answers.Yes) None))) (sym number)
           (record {
             step = lock_moved b p;

@@ -29,10 +29,13 @@ use Rattle.rl_box.specs.declared.mind.Work.{Work}
 use Rattle.rl_box.specs.declared.mind.Work.TheVariants.{Ready, Serve, Say}
 use Rattle.rl_box.specs.Mind.{box_at}
 use Rattle.rl_box.specs.Steps.{BoxStep, has_arms, path_of, other_side}
-use Rattle.rl_box.specs.Steps.BoxStep.{take as takes, reserve as reserves, refuse as refuses, release as releases, lock as lock_it, ask as asks_points, moved as sees_moved, unlock as unlocks, say_yes as says_yes, say_refused as says_refused, say_barred as says_barred, busy as is_busy}
+use Rattle.rl_box.specs.Steps.BoxStep.{take as takes, reserve as reserves, refuse as refuses, release as releases, lock as lock_it, ask as asks_points}
+use Rattle.rl_box.specs.Steps.BoxStep.{moved as sees_moved, unlock as unlocks, say_yes as says_yes, say_refused as says_refused, say_barred as says_barred}
+use Rattle.rl_box.specs.Steps.BoxStep.{busy as is_busy}
 use Rattle.rl_protocol.specs.State.{State}
 use Rattle.rl_protocol.specs.Minds.{train, box, names_arms}
-use Rattle.rl_protocol.specs.Steps.{Step, post, hear_yes, hear_no, go, quiet, take, grant, refuse, release, lock_now, lock_ask, lock_moved, unlock, say_yes, say_no, busy, throw, settle, enter, head, leave, tail, Fits}
+use Rattle.rl_protocol.specs.Steps.{Step, post, hear_yes, hear_no, go, quiet, take, grant, refuse, release, lock_now, lock_ask, lock_moved, unlock, say_yes}
+use Rattle.rl_protocol.specs.Steps.{say_no, busy, throw, settle, enter, head, leave, tail, StepFits}
 use Rattle.rl_protocol.specs.Nodes.{node_of, word_of}
 use Rattle.rl_protocol.specs.Agreement.{Agrees}
 use Rattle.std.proofs.lemmas.Option.{same_Some}
@@ -40,7 +43,7 @@ use Rattle.rl_protocol.specs.AtWork.{word_for, word_at_work}
 use Rattle.rl_protocol.proofs.Served.{at_work}
 use Rattle.rl_protocol.proofs.TableLines.{consistent_line}
 use Rattle.rl_protocol.specs.TableLine.{line_of}
-use Rattle.rl_protocol.specs.Sentences.{holder_in, HasWord, HasLine}
+use Rattle.rl_protocol.specs.Sentences.{holder_in, StateSays, HasLine}
 use Rattle.rl_protocol.proofs.BoxLabels.{kind_is, arm_is, four, four_arms}
 
 -- a mind by its work
@@ -96,18 +99,18 @@ module _ (tables : Tables) (s : State) (b : ℕ) (table : BoxTable) (line : IsLi
       subst (λ n. HasLine table (s.boxes b) (Mail n w)) same (subst (λ z. HasLine table (s.boxes b) (Mail (train t) z)) word line)
 
   -- the lines of a box, at its words
-  resv_line : (tries : ℕ) (step : Step) (w : ResvWord) → Agrees (line_of tables) tries s → Fits (line_of tables) s step → node_of step ≡ nodes.Box (box b)
+  resv_line : (tries : ℕ) (step : Step) (w : ResvWord) → Agrees (line_of tables) tries s → StepFits (line_of tables) s step → node_of step ≡ nodes.Box (box b)
       → word_of step ≡ words.Resv (box b) → ((x : ℕ) → s.resv b x ≡ holder_in w x) → HasLine table (s.boxes b) (Resv (box b) w)
   resv_line tries (grant c t l) w agrees fits node word has =
-      let fit = subst (λ n. Fits (line_of tables) s (grant n t l)) (same_box c b node) fits in
+      let fit = subst (λ n. StepFits (line_of tables) s (grant n t l)) (same_box c b node) fits in
       at_resv w (with_arm w l.x.0 (Some (train t))) _ _ (mind_is (s.boxes b) _ fit.0)
       (reserves (train t) l (s.boxes b).waiting w fit.1 (holds_back tries t l w None agrees fit.0 has fit.2))
   resv_line tries (refuse c t l u) w agrees fits node word has =
-      let fit = subst (λ n. Fits (line_of tables) s (refuse n t l u)) (same_box c b node) fits in
+      let fit = subst (λ n. StepFits (line_of tables) s (refuse n t l u)) (same_box c b node) fits in
       at_resv w w _ _ (mind_is (s.boxes b) _ fit.0)
       (refuses (train t) u l (s.boxes b).waiting w fit.1 (holds_back tries t l w (Some u) agrees fit.0 has fit.2) (λ e. fit.3 (ap (λ n. n.0) e)))
   resv_line tries (release c t l) w agrees fits node word has =
-      let fit = subst (λ n. Fits (line_of tables) s (release n t l)) (same_box c b node) fits in
+      let fit = subst (λ n. StepFits (line_of tables) s (release n t l)) (same_box c b node) fits in
       at_resv w (with_arm w l.x.0 None) _ _ (mind_is (s.boxes b) _ fit.0)
       (releases (train t) l (s.boxes b).waiting w fit.1 (holds_back tries t l w (Some (train t)) agrees fit.0 has fit.2))
   resv_line tries (post t l) w agrees fits node word has = absurd (cc)
@@ -130,28 +133,29 @@ module _ (tables : Tables) (s : State) (b : ℕ) (table : BoxTable) (line : IsLi
   resv_line tries (leave t k) w agrees fits node word has = absurd (cc)
   resv_line tries (tail t k) w agrees fits node word has = absurd (cc)
 
-  lock_line : (step : Step) (w : LockWord) → Fits (line_of tables) s step → node_of step ≡ nodes.Box (box b) → word_of step ≡ words.Lock (box b) → s.lock b ≡ w
+  lock_line : (step : Step) (w : LockWord) → StepFits (line_of tables) s step → node_of step ≡ nodes.Box (box b)
+      → word_of step ≡ words.Lock (box b) → s.lock b ≡ w
       → HasLine table (s.boxes b) (Lock (box b) w)
   lock_line (lock_now c t l side) w fits node word has =
-      let fit = subst (λ n. Fits (line_of tables) s (lock_now n t l side)) (same_box c b node) fits in
+      let fit = subst (λ n. StepFits (line_of tables) s (lock_now n t l side)) (same_box c b node) fits in
       subst (λ v. HasLine table (s.boxes b) (Lock (box b) v)) (sym fit.2 ∙ has)
       (at_lock (Free side) (Locked (path_of (train t) l)) _ _ fit.0 (lock_it (train t) l side fit.1 (joins_back l side true fit.3)))
   lock_line (lock_ask c t l side) w fits node word has =
-      let fit = subst (λ n. Fits (line_of tables) s (lock_ask n t l side)) (same_box c b node) fits in
+      let fit = subst (λ n. StepFits (line_of tables) s (lock_ask n t l side)) (same_box c b node) fits in
       subst (λ v. HasLine table (s.boxes b) (Lock (box b) v)) (sym fit.2 ∙ has)
       (at_lock (Free side) (Asked (path_of (train t) l)) _ _ fit.0
       (asks_points (train t) l side fit.1 (joins_back l side false fit.3) (joins_back l (other_side side) true fit.4)))
   lock_line (lock_moved c p) w fits node word has =
-      let fit = subst (λ n. Fits (line_of tables) s (lock_moved n p)) (same_box c b node) fits in
+      let fit = subst (λ n. StepFits (line_of tables) s (lock_moved n p)) (same_box c b node) fits in
       subst (λ v. HasLine table (s.boxes b) (Lock (box b) v)) (sym fit.1 ∙ has)
       (at_lock (Moved p) (Locked p) _ _ fit.0 (sees_moved p))
   lock_line (unlock c t l side) w fits node word has =
-      let fit = subst (λ n. Fits (line_of tables) s (unlock n t l side)) (same_box c b node) fits in
+      let fit = subst (λ n. StepFits (line_of tables) s (unlock n t l side)) (same_box c b node) fits in
       subst (λ v. HasLine table (s.boxes b) (Lock (box b) v)) (sym fit.2 ∙ has)
       (at_lock (Locked (path_of (train t) l)) (Free side) _ _ fit.0
       (unlocks (train t) l side fit.1 (ap (λ k. joining_side k l.x.0 l.y.0) (sym (kind_is tables s b table line there number)) ∙ fit.3)))
   lock_line (busy c t l p) w fits node word has =
-      let fit = subst (λ n. Fits (line_of tables) s (busy n t l p)) (same_box c b node) fits in
+      let fit = subst (λ n. StepFits (line_of tables) s (busy n t l p)) (same_box c b node) fits in
       subst (λ v. HasLine table (s.boxes b) (Lock (box b) v)) (sym fit.2 ∙ has)
       (at_lock (Locked p) (Locked p) _ _ fit.0 (is_busy (train t) l p fit.1 (λ e. fit.3 (ap (λ n. n.0) e))))
   lock_line (post t l) w fits node word has = absurd (cc)
@@ -182,19 +186,19 @@ module _ (tables : Tables) (s : State) (b : ℕ) (table : BoxTable) (line : IsLi
   no_line t l u verbs.Release e may work = absurd may
   no_line t l u verbs.Unlock e may work = absurd may
 
-  mail_line : (step : Step) (u : TrainId) (w : MailWord) → Fits (line_of tables) s step → node_of step ≡ nodes.Box (box b) → word_of step ≡ words.Mail u
+  mail_line : (step : Step) (u : TrainId) (w : MailWord) → StepFits (line_of tables) s step → node_of step ≡ nodes.Box (box b) → word_of step ≡ words.Mail u
       → s.mail u.0 ≡ w → HasLine table (s.boxes b) (Mail u w)
   mail_line (take c t l) u w fits node word has =
-      let fit = subst (λ n. Fits (line_of tables) s (take n t l)) (same_box c b node) fits in
+      let fit = subst (λ n. StepFits (line_of tables) s (take n t l)) (same_box c b node) fits in
       at_train t u word (mails.Ask l) w fit.1 has
       (at_mail (train t) (mails.Ask l) (mails.Taken l) _ _ (mind_is (s.boxes b) _ fit.0)
       (takes (train t) l (s.boxes b).waiting (ap (λ n. box n) fit.2 ∙ sym number) (names_back l fit.2 fit.3)))
   mail_line (say_yes c t l) u w fits node word has =
-      let fit = subst (λ n. Fits (line_of tables) s (say_yes n t l)) (same_box c b node) fits in
+      let fit = subst (λ n. StepFits (line_of tables) s (say_yes n t l)) (same_box c b node) fits in
       at_train t u word (mails.Taken l) w fit.1 has
       (at_mail (train t) (mails.Taken l) (mails.Yes l) _ _ (mind_is (s.boxes b) _ fit.0) (says_yes (train t) l (s.boxes b).waiting))
   mail_line (say_no c t l v) u w fits node word has =
-      let fit = subst (λ n. Fits (line_of tables) s (say_no n t l v)) (same_box c b node) fits in
+      let fit = subst (λ n. StepFits (line_of tables) s (say_no n t l v)) (same_box c b node) fits in
       at_train t u word (mails.Taken l) w fit.2 has (no_line t l v l.verb refl fit.1 fit.0)
   mail_line (post t l) u w fits node word has = absurd (cc)
   mail_line (hear_yes t l) u w fits node word has = absurd (cc)
@@ -217,9 +221,9 @@ module _ (tables : Tables) (s : State) (b : ℕ) (table : BoxTable) (line : IsLi
   mail_line (tail t k) u w fits node word has = absurd (cc)
 
   -- any step of the box that fits is a line at its word
-  pub line_there : (tries : ℕ) (step : Step) (w : Word) → Agrees (line_of tables) tries s → Fits (line_of tables) s step → node_of step ≡ nodes.Box (box b)
+  pub line_there : (tries : ℕ) (step : Step) (w : Word) → Agrees (line_of tables) tries s → StepFits (line_of tables) s step → node_of step ≡ nodes.Box (box b)
       → word_of step ≡ kind_of w → kind_of w ≡ words.Resv (box b) ⊎ (kind_of w ≡ words.Lock (box b) ⊎ ((u : TrainId) × (kind_of w ≡ words.Mail u)))
-      → HasWord s w → HasLine table (s.boxes b) w
+      → StateSays s w → HasLine table (s.boxes b) w
   line_there tries step (Resv n w) agrees fits node word where_ has = of_resv n (resv_box n where_) word has
     where
       resv_box : (n : BoxId) → (words.Resv n ≡ words.Resv (box b)) ⊎ ((words.Resv n ≡ words.Lock (box b)) ⊎ ((u : TrainId) × (words.Resv n ≡ words.Mail u)))
@@ -267,7 +271,7 @@ module _ (tables : Tables) (s : State) (b : ℕ) (table : BoxTable) (line : IsLi
   work_words (Say t l answer) k h = inr (inr (t, sym (same_Some _ _ h)))
 
   -- a box at work has a line at its word
-  pub work_line : (tries : ℕ) (w : Word) → Agrees (line_of tables) tries s → word_at_work b (s.boxes b).work ≡ Some (kind_of w) → HasWord s w
+  pub work_line : (tries : ℕ) (w : Word) → Agrees (line_of tables) tries s → word_at_work b (s.boxes b).work ≡ Some (kind_of w) → StateSays s w
       → HasLine table (s.boxes b) w
   work_line tries w agrees at has =
       let step = at_work (line_of tables) tries s b (kind_of w) (consistent_line tables line) agrees at in

@@ -7,18 +7,20 @@ use Rattle.rl_words.specs.declared.mail.Letter.{Letter}
 use Rattle.rl_words.specs.declared.mail.MailWord.{MailWord}
 use Rattle.rl_words.specs.declared.mail.MailWord.TheVariants.{Empty, Ask, Taken, Yes, No}
 use Rattle.rl_protocol.specs.Line.{Line}
-use Rattle.rl_protocol.specs.Jobs.{begins, passes}
+use Rattle.rl_train.specs.Jobs.{is_near, is_pass}
 use Rattle.rl_protocol.specs.State.{State}
 use Rattle.rl_protocol.specs.Minds.{letter_of_path}
-use Rattle.rl_protocol.specs.Steps.{Step, post, hear_yes, hear_no, go, quiet, take, grant, refuse, release, lock_now, lock_ask, lock_moved, unlock, say_yes, say_no, busy, throw, settle, enter, head, leave, tail, Fits, next}
+use Rattle.rl_protocol.specs.Steps.{Step, post, hear_yes, hear_no, go, quiet, take, grant, refuse, release, lock_now, lock_ask, lock_moved, unlock, say_yes}
+use Rattle.rl_protocol.specs.Steps.{say_no, busy, throw, settle, enter, head, leave, tail, StepFits, next}
 use Rattle.rl_protocol.specs.Agreement.{Agrees, AgreesOnPassage, Carries}
 use Rattle.rl_protocol.proofs.Known.{Known}
 use Rattle.rl_protocol.proofs.Jobs.{begins_passes, letter_there}
-use Rattle.rl_protocol.proofs.Ranks.{Weights, weight, about, attempt_weight, rank, rank_heard, rank_denied, rank_passed, job_rank, ready_rank, mail_rank, run_rank, box_rank, letter_weight, verb_weight, rank_ready, rank_asking, rank_passing, run_bounded, box_bounded}
+use Rattle.rl_protocol.proofs.Ranks.{Weights, weight, about, attempt_weight, rank, rank_heard, rank_denied, rank_passed, job_rank, ready_rank, mail_rank}
+use Rattle.rl_protocol.proofs.Ranks.{run_rank, box_rank, letter_weight, verb_weight, rank_ready, rank_asking, rank_passing, run_bounded, box_bounded}
 
 -- a post with which an attempt of train t begins
 abbrev pub opens : State → ℕ → Step → Bool
-opens s t (post u l) = u == t && begins (s.trains t).job
+opens s t (post u l) = u == t && is_near (s.trains t).job
 opens s t _ = false
 
 -- what a step weighs for train t
@@ -28,7 +30,7 @@ weight_for w t step = if about step == t then weight w step else 0
 Raises : Weights → Line → State → ℕ → Step → Type 0
 Raises w line s t step = (((next line s step).trains t).left ≡ (s.trains t).left) × (rank w s t + weight_for w t step ≤ rank w (next line s step) t)
 
-raised : (w : Weights) (line : Line) (s : State) (t : ℕ) (step : Step) → AgreesOnPassage s t → Fits line s step → Known line s step → opens s t step ≡ false
+raised : (w : Weights) (line : Line) (s : State) (t : ℕ) (step : Step) → AgreesOnPassage s t → StepFits line s step → Known line s step → opens s t step ≡ false
     → Raises w line s t step
 unfolding Raises
 raised w line s t (post u l) passage fits known h = (grind (arith, nat_tests), grind (arith, nat_tests))
@@ -59,7 +61,7 @@ Opens : Weights → Line → State → ℕ → Step → Type 0
 Opens w line s t step = ((s.trains t).left ≡ ((next line s step).trains t).left + 1) × (rank w s t ≡ attempt_weight w)
     × (weight_for w t step ≤ rank w (next line s step) t)
 
-opened : (w : Weights) (line : Line) (s : State) (t u : ℕ) (l : Letter) → Fits line s (post u l) → Known line s (post u l) → opens s t (post u l) ≡ true
+opened : (w : Weights) (line : Line) (s : State) (t u : ℕ) (l : Letter) → StepFits line s (post u l) → Known line s (post u l) → opens s t (post u l) ≡ true
     → Opens w line s t (post u l)
 unfolding Opens
 opened w line s t u l fits known h =
@@ -67,7 +69,7 @@ opened w line s t u l fits known h =
 
 -- whoever is at work for a train weighs no more than its attempt can
 pub bounded : (w : Weights) (line : Line) (tries : ℕ) (s : State) (t : ℕ) → Agrees line tries s → rank w s t ≤ attempt_weight w
-bounded w line tries s t agrees = of (s.trains t).waits (passes (s.trains t).job) refl refl
+bounded w line tries s t agrees = of (s.trains t).waits (is_pass (s.trains t).job) refl refl
   where
     in_mail : (l : Letter) (v : MailWord) → s.mail t ≡ v → Carries v l → mail_rank w s t v ≤ letter_weight w + verb_weight w l.verb
     in_mail l Empty is h = absurd h
@@ -86,7 +88,7 @@ bounded w line tries s t agrees = of (s.trains t).waits (passes (s.trains t).job
     in_mail l (Yes k) is h = let same : verb_weight w k.verb ≡ verb_weight w l.verb = ap (λ z. verb_weight w z.verb) h in omega arith
     in_mail l (No k u) is h = omega arith
 
-    of : (waits passing : Bool) → (s.trains t).waits ≡ waits → passes (s.trains t).job ≡ passing
+    of : (waits passing : Bool) → (s.trains t).waits ≡ waits → is_pass (s.trains t).job ≡ passing
         → cond waits (job_rank w (s.trains t).job + cond passing (run_rank w (s.tracks t).phase (s.run t)) (mail_rank w s t (s.mail t)))
         (ready_rank w (s.trains t).job) ≤ attempt_weight w
     of false passing e f = rank_ready w (s.trains t).job
@@ -101,7 +103,7 @@ bounded w line tries s t agrees = of (s.trains t).waits (passes (s.trains t).job
         )
 
 -- each step does either
-pub raised_or_opened : (w : Weights) (line : Line) (s : State) (t : ℕ) (step : Step) → AgreesOnPassage s t → Fits line s step → Known line s step
+pub raised_or_opened : (w : Weights) (line : Line) (s : State) (t : ℕ) (step : Step) → AgreesOnPassage s t → StepFits line s step → Known line s step
     → let m = (next line s step).trains t in
     ((m.left ≡ (s.trains t).left) × (rank w s t + weight_for w t step ≤ rank w (next line s step) t))
     ⊎ (((s.trains t).left ≡ m.left + 1) × (rank w s t ≡ attempt_weight w) × (weight_for w t step ≤ rank w (next line s step) t))

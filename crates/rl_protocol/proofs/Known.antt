@@ -7,10 +7,11 @@ use Rattle.rl_words.specs.declared.mail.Letter.{Letter}
 use Rattle.rl_words.specs.declared.lock.Path.{Path}
 use Rattle.rl_box.specs.declared.mind.Answer.TheVariants as answers
 use Rattle.rl_protocol.specs.Line.{Line}
-use Rattle.rl_protocol.specs.Jobs.{passes}
+use Rattle.rl_train.specs.Jobs.{is_pass}
 use Rattle.rl_protocol.specs.State.{State}
 use Rattle.rl_protocol.specs.Minds.{letter_of, letter_of_path, train}
-use Rattle.rl_protocol.specs.Steps.{Step, post, hear_yes, hear_no, go, quiet, take, grant, refuse, release, lock_now, lock_ask, lock_moved, unlock, say_yes, say_no, busy, throw, settle, enter, head, leave, tail, Fits}
+use Rattle.rl_protocol.specs.Steps.{Step, post, hear_yes, hear_no, go, quiet, take, grant, refuse, release, lock_now, lock_ask, lock_moved, unlock, say_yes}
+use Rattle.rl_protocol.specs.Steps.{say_no, busy, throw, settle, enter, head, leave, tail, StepFits}
 use Rattle.rl_protocol.specs.Held.{is_path_of}
 use Rattle.rl_protocol.specs.Agreement.{asks, Carries, AgreesOnMailboxes, AgreesOnLocks, path_in_setting}
 use Rattle.rl_protocol.proofs.Jobs.{letter_not_passing, letter_there}
@@ -18,7 +19,7 @@ use Rattle.rl_protocol.proofs.Jobs.{letter_not_passing, letter_there}
 -- train t waits for the answer to the letter
 pub record Waits (line : Line) (s : State) (t : ℕ) (l : Letter) : Type 0 where
   pub waits : (s.trains t).waits ≡ true
-  pub active : passes (s.trains t).job ≡ false
+  pub active : is_pass (s.trains t).job ≡ false
   pub letter : letter_of line t (s.trains t) ≡ Some l
 
 -- box b has taken the letter of train t
@@ -26,13 +27,13 @@ pub record HasTaken (line : Line) (s : State) (b t : ℕ) (l : Letter) : Type 0 
   pub mail : s.mail t ≡ Taken l
   pub to : l.to.0 ≡ b
   pub waits : (s.trains t).waits ≡ true
-  pub active : passes (s.trains t).job ≡ false
+  pub active : is_pass (s.trains t).job ≡ false
   pub letter : letter_of line t (s.trains t) ≡ Some l
 
 abbrev pub Known : Line → State → Step → Type 0
-Known line s (post t l) = passes (s.trains t).job ≡ false
-Known line s (hear_yes t l) = passes (s.trains t).job ≡ false
-Known line s (hear_no t l u job) = passes (s.trains t).job ≡ false
+Known line s (post t l) = is_pass (s.trains t).job ≡ false
+Known line s (hear_yes t l) = is_pass (s.trains t).job ≡ false
+Known line s (hear_no t l u job) = is_pass (s.trains t).job ≡ false
 Known line s (go t) = s.mail t ≡ Empty
 Known line s (quiet t) = s.mail t ≡ Empty
 Known line s (take b t l) = Waits line s t l × (is_path_of t (s.boxes b).waiting ≡ false)
@@ -63,7 +64,7 @@ waiting_for : (line : Line) (s : State) (t : ℕ) (l : Letter) → AgreesOnMailb
 waiting_for line s t l old full same =
     let full : asks (s.trains t) ≡ true = asking line s t old full in
     let waits : (s.trains t).waits ≡ true = grind (arith, nat_tests) in
-    let active : passes (s.trains t).job ≡ false = grind (arith, nat_tests) in
+    let active : is_pass (s.trains t).job ≡ false = grind (arith, nat_tests) in
     let there = letter_there (s.trains t).job (line.row t (s.trains t).step) active in
     record {
       waits = waits;
@@ -93,7 +94,7 @@ path_of_other : (t : ℕ) (o : Option Path) → ((p : Path) → o ≡ Some p →
 path_of_other t None h = refl
 path_of_other t (Some p) h = ne_eqb p.train.0 t (h p refl)
 
-pub known : (line : Line) (s : State) (step : Step) → AgreesOnMailboxes line s → AgreesOnLocks line s → Fits line s step → Known line s step
+pub known : (line : Line) (s : State) (step : Step) → AgreesOnMailboxes line s → AgreesOnLocks line s → StepFits line s step → Known line s step
 known line s (post t l) old locks fits = letter_not_passing (s.trains t).job _ l fits.2
 known line s (hear_yes t l) old locks fits = letter_not_passing (s.trains t).job _ l fits.1
 known line s (hear_no t l u job) old locks fits = letter_not_passing (s.trains t).job _ l fits.1

@@ -4,7 +4,6 @@ use Rattle.std.specs.Prelude.{unwrap_or}
 use Rattle.std.specs.Option.{option_map_or}
 use Rattle.rl_base.specs.declared.job.Job.TheVariants.{Pass, Unlock}
 use Rattle.rl_words.specs.declared.mail.MailWord.{MailWord}
-use Rattle.rl_train.specs.Jobs.{after_yes, is_pass}
 use Rattle.rl_base.specs.declared.layout.NodeKind.TheVariants as nodes
 use Rattle.rl_words.specs.declared.mail.Letter.{Letter}
 use Rattle.rl_words.specs.declared.mail.MailWord.TheVariants as mails
@@ -16,7 +15,7 @@ use Rattle.rl_tables.specs.declared.table.StepRow.{StepRow}
 use Rattle.rl_tables.specs.declared.table.TrainTable.{TrainTable}
 use Rattle.rl_tables.specs.declared.table.Tables.{Tables}
 use Rattle.rl_train.specs.declared.mind.TrainMind.{TrainMind}
-use Rattle.rl_train.specs.Mind.{is_resting}
+use Rattle.rl_train.specs.Mind.{at_rest}
 use Rattle.rl_train.specs.Steps.{TrainStep}
 use Rattle.rl_train.specs.Steps as trains
 use Rattle.rl_train.specs.Steps.TrainStep.{post as posts, hear_yes as hears_yes, hear_no as hears_no, go as goes, quiet as quiets}
@@ -27,12 +26,12 @@ use Rattle.rl_track.specs.Track.TrackStep.{enter as enters, head as heads, leave
 use Rattle.rl_track.specs.Machine.{MachineStep}
 use Rattle.rl_track.specs.Machine.MachineStep.{throw as throws, settle as settles}
 use Rattle.rl_protocol.specs.Line.{Line}
-use Rattle.rl_protocol.specs.Jobs.{letter_at, job_after_yes, job_after_no, passes, begins, finishes}
+use Rattle.rl_train.specs.Jobs.{letter, after_yes, after_no, is_pass, is_near}
 use Rattle.rl_protocol.specs.State.{State, put}
-use Rattle.rl_protocol.specs.Minds.{train, box, at_rest, row_of, letter_of, posted, heard, passed}
+use Rattle.rl_protocol.specs.Minds.{train, box, at_rest as line_at_rest, row_of, letter_of, heard, passed}
 use Rattle.rl_protocol.specs.Steps.{post, hear_yes, hear_no, go, quiet, throw, settle, enter, head, leave, tail}
 use Rattle.rl_protocol.specs.TableLine.{no_row, line_of}
-use Rattle.rl_protocol.specs.Sentences.{HasWord, with_train, with_track, Makes}
+use Rattle.rl_protocol.specs.Sentences.{StateSays, with_train, with_track, MakesStep}
 
 -- the row and the number of steps of a train that is there
 row_is : (tables : Tables) (t : ℕ) (table : TrainTable) (mind : TrainMind) (row : StepRow) → slice_get tables.trains t ≡ Some table
@@ -43,44 +42,37 @@ row_is tables t table mind row e f =
 steps_are : (tables : Tables) (t : ℕ) (table : TrainTable) → slice_get tables.trains t ≡ Some table → (line_of tables).steps t ≡ length table.rows
 steps_are tables t table e = ap (λ o. option_map_or (λ (x : TrainTable). length x.rows) o 0) e
 
-resting_is : (tables : Tables) (t : ℕ) (table : TrainTable) (mind : TrainMind) → slice_get tables.trains t ≡ Some table → is_resting table mind ≡ false
-    → at_rest (line_of tables) t mind ≡ false
-unfolding begins
+resting_is : (tables : Tables) (t : ℕ) (table : TrainTable) (mind : TrainMind) → slice_get tables.trains t ≡ Some table → at_rest table mind ≡ false
+    → line_at_rest (line_of tables) t mind ≡ false
 resting_is tables t table mind e h =
-    ap (λ n. not mind.waits && begins mind.job && (mind.step == n || mind.left == 0)) (steps_are tables t table e)
-    ∙ turned (not mind.waits) (begins mind.job) (mind.step == length table.rows || mind.left == 0) h
+    ap (λ n. not mind.waits && is_near mind.job && (mind.step == n || mind.left == 0)) (steps_are tables t table e)
+    ∙ turned (not mind.waits) (is_near mind.job) (mind.step == length table.rows || mind.left == 0) h
   where
     turned : (x y z : Bool) → (y && (x && z)) ≡ false → (x && y && z) ≡ false
     turned x y z h = grind arith
 
 module _ (tables : Tables) (s : State) (t : ℕ) (table : TrainTable) (there : slice_get tables.trains t ≡ Some table) (number : table.number ≡ train t) where
-  letter_is : (row : StepRow) (l : Letter) → slice_get table.rows (s.trains t).step ≡ Some row → letter_at (s.trains t).job row ≡ Some l
+  letter_is : (row : StepRow) (l : Letter) → slice_get table.rows (s.trains t).step ≡ Some row → letter row (s.trains t).job ≡ Some l
       → letter_of (line_of tables) t (s.trains t) ≡ Some l
-  letter_is row l e f = ap (letter_at (s.trains t).job) (row_is tables t table (s.trains t) row there e) ∙ f
+  letter_is row l e f = ap (λ r. letter r (s.trains t).job) (row_is tables t table (s.trains t) row there e) ∙ f
 
   heard_is : (row : StepRow) → slice_get table.rows (s.trains t).step ≡ Some row → heard (line_of tables) t (s.trains t) ≡ trains.heard row (s.trains t)
-  unfolding job_after_yes finishes
   heard_is row e = ap (λ r. trains.heard r (s.trains t)) (row_is tables t table (s.trains t) row there e)
 
-  posted_is : posted (s.trains t) ≡ trains.posted (s.trains t)
-  unfolding begins
-  posted_is = refl
-
   passed_is : (s.trains t).job ≡ Pass → passed (line_of tables) t (s.trains t) ≡ record (s.trains t) { waits = false; job = Unlock }
-  unfolding job_after_yes
+  unfolding after_yes
   passed_is h = ap (λ j. record (s.trains t) { waits = false; job = after_yes (row_of (line_of tables) t (s.trains t)) j }) h
 
-  passes_is : (s.trains t).job ≡ Pass → passes (s.trains t).job ≡ true
-  unfolding passes
+  passes_is : (s.trains t).job ≡ Pass → is_pass (s.trains t).job ≡ true
+  unfolding is_pass
   passes_is h = ap is_pass h
 
-  mail_makes : (v : MailWord) (mind : TrainMind) → Makes (line_of tables) s (nodes.Train (train t)) (Mail (train t) v) (with_train s t mind)
-      → Makes (line_of tables) s (nodes.Train (train t)) (Mail table.number v) (with_train s t mind)
-  mail_makes v mind h = subst (λ n. Makes (line_of tables) s (nodes.Train (train t)) (Mail n v) (with_train s t mind)) (sym number) h
+  mail_makes : (v : MailWord) (mind : TrainMind) → MakesStep (line_of tables) s (nodes.Train (train t)) (Mail (train t) v) (with_train s t mind)
+      → MakesStep (line_of tables) s (nodes.Train (train t)) (Mail table.number v) (with_train s t mind)
+  mail_makes v mind h = subst (λ n. MakesStep (line_of tables) s (nodes.Train (train t)) (Mail n v) (with_train s t mind)) (sym number) h
 
-  pub train_makes : (w v : Word) (mind : TrainMind) → TrainStep table (s.trains t) w v mind → HasWord s w
-      → Makes (line_of tables) s (nodes.Train (train t)) v (with_train s t mind)
-  unfolding letter_at job_after_no
+  pub train_makes : (w v : Word) (mind : TrainMind) → TrainStep table (s.trains t) w v mind → StateSays s w
+      → MakesStep (line_of tables) s (nodes.Train (train t)) v (with_train s t mind)
   train_makes w v mind (posts row l is letter waits rest) has =
       mail_makes (mails.Ask l) mind
       (record {
@@ -88,7 +80,7 @@ module _ (tables : Tables) (s : State) (t : ℕ) (table : TrainTable) (there : s
         fits = (waits, resting_is tables t table (s.trains t) there rest, letter_is row l is letter, subst (λ n. s.mail n.0 ≡ mails.Empty) number has);
         by_node = refl;
         on_word = refl;
-        leaves = ap (λ m. record s { trains = put s.trains t m; mail = put s.mail t (mails.Ask l) }) posted_is;
+        leaves = refl;
       })
   train_makes w v mind (hears_yes row l is letter waits) has =
       mail_makes mails.Empty mind
@@ -107,7 +99,7 @@ module _ (tables : Tables) (s : State) (t : ℕ) (table : TrainTable) (there : s
           waits,
           letter_is row l is letter,
           subst (λ n. s.mail n.0 ≡ mails.No l holder) number has,
-          ap (λ r. job_after_no r (s.trains t).job)
+          ap (λ r. after_no r (s.trains t).job)
               (row_is tables t table (s.trains t) row there is) ∙ after,
         );
         by_node = refl;
@@ -115,7 +107,7 @@ module _ (tables : Tables) (s : State) (t : ℕ) (table : TrainTable) (there : s
         leaves = refl;
       })
   train_makes w v mind (goes job waits) has =
-      subst (λ n. Makes (line_of tables) s (nodes.Train (train t)) (Run n (runs.Go (s.trains t).step)) (with_train s t mind)) (sym number)
+      subst (λ n. MakesStep (line_of tables) s (nodes.Train (train t)) (Run n (runs.Go (s.trains t).step)) (with_train s t mind)) (sym number)
       (record {
         step = go t;
         fits = (waits, passes_is job, subst (λ n. s.run n.0 ≡ runs.Clear (s.trains t).step) number has);
@@ -124,7 +116,7 @@ module _ (tables : Tables) (s : State) (t : ℕ) (table : TrainTable) (there : s
         leaves = refl;
       })
   train_makes w v mind (quiets job waits) has =
-      subst (λ n. Makes (line_of tables) s (nodes.Train (train t)) (Sense n (senses.Quiet ((s.trains t).step + 1))) (with_train s t mind)) (sym number)
+      subst (λ n. MakesStep (line_of tables) s (nodes.Train (train t)) (Sense n (senses.Quiet ((s.trains t).step + 1))) (with_train s t mind)) (sym number)
       (record {
         step = quiet t;
         fits = (waits, passes_is job, subst (λ n. s.sense n.0 ≡ senses.Tail (s.trains t).step) number has);
@@ -135,13 +127,13 @@ module _ (tables : Tables) (s : State) (t : ℕ) (table : TrainTable) (there : s
 
 -- a track has no table, nor has a machine
 pub track_makes : (line : Line) (s : State) (t : ℕ) (before : TrackMind) (w v : Word) (mind : TrackMind) → s.tracks t ≡ before
-    → TrackStep (train t) before w v mind → HasWord s w → Makes line s (nodes.Track (train t)) v (with_track s t mind)
+    → TrackStep (train t) before w v mind → StateSays s w → MakesStep line s (nodes.Track (train t)) v (with_track s t mind)
 track_makes line s t before w v mind is (enters k) has = record { step = enter t k; fits = (is, has); by_node = refl; on_word = refl; leaves = refl }
 track_makes line s t before w v mind is (heads k) has = record { step = head t k; fits = (is, has); by_node = refl; on_word = refl; leaves = refl }
 track_makes line s t before w v mind is (leaves_it k) has = record { step = leave t k; fits = (is, has); by_node = refl; on_word = refl; leaves = refl }
 track_makes line s t before w v mind is (tails k) has = record { step = tail t k; fits = (is, has); by_node = refl; on_word = refl; leaves = refl }
 
-pub machine_makes : (line : Line) (s : State) (b : ℕ) (before mind : MachineMind) (w v : Word) → MachineStep (box b) before w v mind → HasWord s w
-    → Makes line s (nodes.Machine (box b)) v s
+pub machine_makes : (line : Line) (s : State) (b : ℕ) (before mind : MachineMind) (w v : Word) → MachineStep (box b) before w v mind → StateSays s w
+    → MakesStep line s (nodes.Machine (box b)) v s
 machine_makes line s b before mind w v (throws m p) has = record { step = throw b p; fits = has; by_node = refl; on_word = refl; leaves = refl }
 machine_makes line s b before mind w v (settles m p) has = record { step = settle b p; fits = has; by_node = refl; on_word = refl; leaves = refl }

@@ -7,9 +7,9 @@ use Rattle.rl_base.specs.declared.job.Job.TheVariants as jobs
 use Rattle.rl_base.specs.declared.job.Verb.TheVariants as verbs
 use Rattle.rl_words.specs.declared.mail.Letter.{Letter}
 use Rattle.rl_tables.specs.declared.table.StepRow.{StepRow}
-use Rattle.rl_protocol.specs.Line.{Line, at, IsStepOf, IsConsistent}
+use Rattle.rl_protocol.specs.Line.{Line, IsStepOf, IsConsistent}
 use Rattle.rl_train.specs.declared.mind.TrainMind.{TrainMind}
-use Rattle.rl_protocol.specs.Jobs.{letter_at, has_passed, holds_at, locks_at, begins, passes}
+use Rattle.rl_train.specs.Jobs.{at, letter, has_passed, holds_at, locks_at, is_near, is_pass}
 use Rattle.rl_protocol.specs.Minds.{letter_of}
 use Rattle.rl_protocol.specs.Held.{job_holds}
 use Rattle.rl_protocol.specs.Agreement.{place_of}
@@ -41,8 +41,8 @@ row_arms line t k laws h =
       back = laws.arms t k _ _ here.1;
     }
 
-pub letter_arm : (line : Line) (row : StepRow) (job : Job) (l : Letter) → HasArms line row → letter_at job row ≡ Some l → line.has_arm l.to.0 l.x.0 ≡ true
-unfolding letter_at
+pub letter_arm : (line : Line) (row : StepRow) (job : Job) (l : Letter) → HasArms line row → letter row job ≡ Some l → line.has_arm l.to.0 l.x.0 ≡ true
+unfolding letter
 letter_arm line row jobs.Near l arms is = grind arith
 letter_arm line row jobs.Far l arms is = grind arith
 letter_arm line row jobs.Lock l arms is = grind arith
@@ -54,9 +54,9 @@ letter_arm line row jobs.DropFar l arms is = grind arith
 letter_arm line row jobs.DropNear l arms is = grind arith
 
 -- what a train releases isn't where it stands
-released_off : (line : Line) (t k : ℕ) (job : Job) (l : Letter) → IsStepOf line t k (line.row t k) → letter_at job (line.row t k) ≡ Some l
+released_off : (line : Line) (t k : ℕ) (job : Job) (l : Letter) → IsStepOf line t k (line.row t k) → letter (line.row t k) job ≡ Some l
     → l.verb ≡ verbs.Release → line.ends t (cond (has_passed job) (k + 1) k) l.to.0 l.x.0 ≡ false
-unfolding letter_at has_passed
+unfolding letter has_passed
 released_off line t k jobs.Near l is h verb = grind arith
 released_off line t k jobs.Far l is h verb = grind arith
 released_off line t k jobs.Lock l is h verb = grind arith
@@ -83,8 +83,8 @@ pub record AsksLock (row : StepRow) (job : Job) (l : Letter) : Type 0 where
   pub holds : (here ahead : Bool) (b x : ℕ) → holds_at job row here ahead b x ≡ (here || ahead)
   pub unlocked : (b x y : ℕ) → locks_at job row b x y ≡ false
 
-pub asks_lock : (row : StepRow) (job : Job) (l : Letter) → letter_at job row ≡ Some l → l.verb ≡ verbs.Lock → AsksLock row job l
-unfolding letter_at holds_at locks_at
+pub asks_lock : (row : StepRow) (job : Job) (l : Letter) → letter row job ≡ Some l → l.verb ≡ verbs.Lock → AsksLock row job l
+unfolding letter holds_at locks_at
 asks_lock row jobs.Near l is verb = absurd (grind arith)
 asks_lock row jobs.Far l is verb = absurd (grind arith)
 asks_lock row jobs.Lock l is verb = record { to = grind arith; x = grind arith; y = grind arith; holds = λ here ahead b x. refl; unlocked = λ b x y. refl }
@@ -102,8 +102,8 @@ pub record AsksUnlock (row : StepRow) (job : Job) (l : Letter) : Type 0 where
   pub y : l.y ≡ row.y
   pub locked : (b x y : ℕ) → locks_at job row b x y ≡ (at row.b row.x b x && row.y.0 == y)
 
-pub asks_unlock : (row : StepRow) (job : Job) (l : Letter) → letter_at job row ≡ Some l → l.verb ≡ verbs.Unlock → AsksUnlock row job l
-unfolding letter_at locks_at
+pub asks_unlock : (row : StepRow) (job : Job) (l : Letter) → letter row job ≡ Some l → l.verb ≡ verbs.Unlock → AsksUnlock row job l
+unfolding letter locks_at
 asks_unlock row jobs.Near l is verb = absurd (grind arith)
 asks_unlock row jobs.Far l is verb = absurd (grind arith)
 asks_unlock row jobs.Lock l is verb = absurd (grind arith)
@@ -115,8 +115,8 @@ asks_unlock row jobs.DropFar l is verb = absurd (grind arith)
 asks_unlock row jobs.DropNear l is verb = absurd (grind arith)
 
 -- only at Pass and at Unlock has a train a lock by its job, and that is the one of its step
-pub locks_only : (row : StepRow) (job : Job) (b x y : ℕ) → locks_at job row b x y ≡ true → (begins job ≡ false) × (row.b.0 ≡ b) × (row.x.0 ≡ x) × (row.y.0 ≡ y)
-unfolding locks_at begins
+pub locks_only : (row : StepRow) (job : Job) (b x y : ℕ) → locks_at job row b x y ≡ true → (is_near job ≡ false) × (row.b.0 ≡ b) × (row.x.0 ≡ x) × (row.y.0 ≡ y)
+unfolding locks_at is_near
 locks_only row jobs.Near b x y h = absurd (false≢true h)
 locks_only row jobs.Far b x y h = absurd (false≢true h)
 locks_only row jobs.Lock b x y h = absurd (false≢true h)
@@ -128,8 +128,8 @@ locks_only row jobs.DropFar b x y h = absurd (false≢true h)
 locks_only row jobs.DropNear b x y h = absurd (false≢true h)
 
 -- a train that passes holds both segments, and has the lock of its step
-pub passing_holds : (row : StepRow) (job : Job) (here ahead : Bool) (b x : ℕ) → passes job ≡ true → holds_at job row here ahead b x ≡ (here || ahead)
-unfolding passes holds_at
+pub passing_holds : (row : StepRow) (job : Job) (here ahead : Bool) (b x : ℕ) → is_pass job ≡ true → holds_at job row here ahead b x ≡ (here || ahead)
+unfolding is_pass holds_at
 passing_holds row jobs.Near here ahead b x h = cc
 passing_holds row jobs.Far here ahead b x h = cc
 passing_holds row jobs.Lock here ahead b x h = cc
@@ -140,8 +140,8 @@ passing_holds row jobs.FreeFar here ahead b x h = cc
 passing_holds row jobs.DropFar here ahead b x h = cc
 passing_holds row jobs.DropNear here ahead b x h = cc
 
-pub passing_locks : (row : StepRow) (job : Job) (b x y : ℕ) → passes job ≡ true → locks_at job row b x y ≡ (at row.b row.x b x && row.y.0 == y)
-unfolding passes locks_at
+pub passing_locks : (row : StepRow) (job : Job) (b x y : ℕ) → is_pass job ≡ true → locks_at job row b x y ≡ (at row.b row.x b x && row.y.0 == y)
+unfolding is_pass locks_at
 passing_locks row jobs.Near b x y h = cc
 passing_locks row jobs.Far b x y h = cc
 passing_locks row jobs.Lock b x y h = cc
@@ -153,9 +153,9 @@ passing_locks row jobs.DropFar b x y h = cc
 passing_locks row jobs.DropNear b x y h = cc
 
 -- what a train asks to reserve it doesn't hold, and what it releases it holds
-reserve_new : (line : Line) (t k : ℕ) (job : Job) (l : Letter) → IsStepOf line t k (line.row t k) → letter_at job (line.row t k) ≡ Some l
+reserve_new : (line : Line) (t k : ℕ) (job : Job) (l : Letter) → IsStepOf line t k (line.row t k) → letter (line.row t k) job ≡ Some l
     → l.verb ≡ verbs.Reserve → holds_at job (line.row t k) (line.ends t k l.to.0 l.x.0) (line.ends t (k + 1) l.to.0 l.x.0) l.to.0 l.x.0 ≡ false
-unfolding letter_at holds_at
+unfolding letter holds_at
 reserve_new line t k jobs.Near l is h verb = grind (arith, nat_tests, is.ahead l.to.0 l.x.0, is.apart l.to.0 l.x.0)
 reserve_new line t k jobs.Far l is h verb = grind (arith, nat_tests, is.ahead l.to.0 l.x.0, is.apart l.to.0 l.x.0)
 reserve_new line t k jobs.Lock l is h verb = grind arith
@@ -166,9 +166,9 @@ reserve_new line t k jobs.FreeFar l is h verb = grind arith
 reserve_new line t k jobs.DropFar l is h verb = grind arith
 reserve_new line t k jobs.DropNear l is h verb = grind arith
 
-release_old : (line : Line) (t k : ℕ) (job : Job) (l : Letter) → IsStepOf line t k (line.row t k) → letter_at job (line.row t k) ≡ Some l
+release_old : (line : Line) (t k : ℕ) (job : Job) (l : Letter) → IsStepOf line t k (line.row t k) → letter (line.row t k) job ≡ Some l
     → l.verb ≡ verbs.Release → holds_at job (line.row t k) (line.ends t k l.to.0 l.x.0) (line.ends t (k + 1) l.to.0 l.x.0) l.to.0 l.x.0 ≡ true
-unfolding letter_at holds_at
+unfolding letter holds_at
 release_old line t k jobs.Near l is h verb = grind arith
 release_old line t k jobs.Far l is h verb = grind arith
 release_old line t k jobs.Lock l is h verb = grind arith

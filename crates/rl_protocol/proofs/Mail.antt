@@ -14,17 +14,18 @@ use Rattle.rl_protocol.specs.Line.{Line}
 use Rattle.rl_protocol.specs.State.{State}
 use Rattle.rl_box.specs.Steps.{path_of}
 use Rattle.rl_protocol.specs.Minds.{letter_of, letter_of_path, train}
-use Rattle.rl_protocol.specs.Steps.{Step, post, hear_yes, hear_no, go, quiet, take, grant, refuse, release, lock_now, lock_ask, lock_moved, unlock, say_yes, say_no, busy, throw, settle, enter, head, leave, tail, Fits, next}
+use Rattle.rl_protocol.specs.Steps.{Step, post, hear_yes, hear_no, go, quiet, take, grant, refuse, release, lock_now, lock_ask, lock_moved, unlock, say_yes}
+use Rattle.rl_protocol.specs.Steps.{say_no, busy, throw, settle, enter, head, leave, tail, StepFits, next}
 use Rattle.rl_protocol.specs.Agreement.{asks, Carries, IsAtWork, AgreesOnMailboxes}
 use Rattle.rl_protocol.proofs.Jobs.{letter_not_passing}
 use Rattle.rl_protocol.proofs.Known.{Known, HasTaken}
 
-empty_kept : (line : Line) (s : State) (step : Step) (t : ℕ) → (asks (s.trains t) ≡ false → s.mail t ≡ Empty) → Fits line s step
+empty_kept : (line : Line) (s : State) (step : Step) (t : ℕ) → (asks (s.trains t) ≡ false → s.mail t ≡ Empty) → StepFits line s step
     → asks ((next line s step).trains t) ≡ false → (next line s step).mail t ≡ Empty
 empty_kept line s step t old fits h = grind (arith, nat_tests, letter_not_passing)
 
 letter_kept : (line : Line) (s : State) (step : Step) (t : ℕ) (l : Letter)
-    → ((s.trains t).waits ≡ true → letter_of line t (s.trains t) ≡ Some l → Carries (s.mail t) l) → Fits line s step → Known line s step
+    → ((s.trains t).waits ≡ true → letter_of line t (s.trains t) ≡ Some l → Carries (s.mail t) l) → StepFits line s step → Known line s step
     → ((next line s step).trains t).waits ≡ true → letter_of line t ((next line s step).trains t) ≡ Some l → Carries ((next line s step).mail t) l
 letter_kept line s step t l old fits known h k = grind (arith, nat_tests, letter_not_passing)
 
@@ -33,7 +34,7 @@ asked_letter : (b t : ℕ) (l : Letter) → l.to.0 ≡ b → l.verb ≡ verbs.Lo
 asked_letter b t l to verb = grind arith
 
 asked_kept : (line : Line) (s : State) (b t' : ℕ) (l' : Letter) (side : Side) (t : ℕ) (l : Letter) → (s.mail t ≡ Taken l → IsAtWork (s.boxes l.to.0) l.to.0 t l)
-    → Fits line s (lock_ask b t' l' side) → HasTaken line s b t' l' → (next line s (lock_ask b t' l' side)).mail t ≡ Taken l
+    → StepFits line s (lock_ask b t' l' side) → HasTaken line s b t' l' → (next line s (lock_ask b t' l' side)).mail t ≡ Taken l
     → IsAtWork ((next line s (lock_ask b t' l' side)).boxes l.to.0) l.to.0 t l
 asked_kept line s b t' l' side t l old fits known h =
     ⊎_elim
@@ -47,7 +48,7 @@ asked_kept line s b t' l' side t l old fits known h =
     (λ e. grind (arith, nat_tests))
     (cases_eq t t')
 
-taken_kept : (line : Line) (s : State) (step : Step) (t : ℕ) (l : Letter) → (s.mail t ≡ Taken l → IsAtWork (s.boxes l.to.0) l.to.0 t l) → Fits line s step
+taken_kept : (line : Line) (s : State) (step : Step) (t : ℕ) (l : Letter) → (s.mail t ≡ Taken l → IsAtWork (s.boxes l.to.0) l.to.0 t l) → StepFits line s step
     → Known line s step → (next line s step).mail t ≡ Taken l → IsAtWork ((next line s step).boxes l.to.0) l.to.0 t l
 taken_kept line s (post t' l') t l old fits known h = grind (arith, nat_tests)
 taken_kept line s (hear_yes t' l') t l old fits known h = grind (arith, nat_tests)
@@ -72,7 +73,7 @@ taken_kept line s (head t' k) t l old fits known h = grind (arith, nat_tests)
 taken_kept line s (leave t' k) t l old fits known h = grind (arith, nat_tests)
 taken_kept line s (tail t' k) t l old fits known h = grind (arith, nat_tests)
 
-module _ (line : Line) (s : State) (step : Step) (old : AgreesOnMailboxes line s) (fits : Fits line s step) (known : Known line s step) where
+module _ (line : Line) (s : State) (step : Step) (old : AgreesOnMailboxes line s) (fits : StepFits line s step) (known : Known line s step) where
   serves_kept : (b : ℕ) (t : TrainId) (l : Letter) → ((next line s step).boxes b).work ≡ Serve t l → ((next line s step).mail t.0 ≡ Taken l) × (l.to.0 ≡ b)
   serves_kept b t l h = grind (arith, nat_tests, old.serves b t l)
 

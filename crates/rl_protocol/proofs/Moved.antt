@@ -1,5 +1,6 @@
 -- Every step's move is guarded in the world of the state before it, and makes that world the one of the state after it.
-use Rattle.std.proofs.Common.{◌≡◌, ◌≢◌, ℕ, ◌+◌, ◌<◌, ◌==◌, Bool, true, false, not, ◌&&◌, ◌||◌, List, [], ◌∷◌, length, zero, suc, slice_get, Option, Some, None, refl, sym, ap, ◌∙◌, subst, inl, inr, ◌⊎◌, arith}
+use Rattle.std.proofs.Common.{◌≡◌, ◌≢◌, ℕ, ◌+◌, ◌<◌, ◌==◌, Bool, true, false, not, ◌&&◌, ◌||◌, List, [], ◌∷◌, length, zero, suc, slice_get, Option, Some, None}
+use Rattle.std.proofs.Common.{refl, sym, ap, ◌∙◌, subst, inl, inr, ◌⊎◌, arith}
 use Rattle.std.specs.Prelude.{is_some, unwrap_or, option_map}
 use Rattle.std.proofs.lemmas.Bool.{eq-eqb, eqb-true, or_right, and_from, and_parts, false≢true}
 use Rattle.std.proofs.lemmas.Bool.Decides.{nat_tests}
@@ -29,12 +30,13 @@ use Rattle.rl_words.specs.declared.mail.Letter.{Letter}
 use Rattle.rl_words.specs.declared.mail.MailWord.TheVariants.{Empty}
 use Rattle.rl_words.specs.declared.run.RunWord.TheVariants.{Clear, Go, Across}
 use Rattle.rl_words.specs.Mail.{IsRefusable}
-use Rattle.rl_protocol.specs.Line.{Line, at, is_held_by, IsConsistent, same_number}
-use Rattle.rl_protocol.specs.Jobs.{passes}
+use Rattle.rl_protocol.specs.Line.{Line, is_held_by, IsConsistent, same_number}
+use Rattle.rl_train.specs.Jobs.{at, is_pass}
 use Rattle.rl_protocol.specs.State.{State}
 use Rattle.rl_box.specs.Steps.{path_of, other_side}
 use Rattle.rl_protocol.specs.Minds.{train, box, row_of, letter_of_path}
-use Rattle.rl_protocol.specs.Steps.{Step, post, hear_yes, hear_no, go, quiet, take, grant, refuse, release, lock_now, lock_ask, lock_moved, unlock, say_yes, say_no, busy, throw, settle, enter, head, leave, tail, Fits, next}
+use Rattle.rl_protocol.specs.Steps.{Step, post, hear_yes, hear_no, go, quiet, take, grant, refuse, release, lock_now, lock_ask, lock_moved, unlock, say_yes}
+use Rattle.rl_protocol.specs.Steps.{say_no, busy, throw, settle, enter, head, leave, tail, StepFits, next}
 use Rattle.rl_protocol.specs.StepMoves.{move_of, refusal_of, seg_at}
 use Rattle.rl_protocol.specs.Held.{has_done_for, done_in, held_with, locked_with, holds, has_lock, job_holds, job_locks}
 use Rattle.rl_protocol.specs.Agreement.{Agrees, AgreesOnPassage, is_passing, place_of, is_locked_by, path_in_setting, lock_holder, HasWhatIsAsked}
@@ -101,7 +103,7 @@ module _ (net : NetworkPlan) (line : Line) (tries : ℕ) (s : State) (network : 
       (row_arms line t (s.trains t).step laws (waiting_within line tries s t agrees has.waits)) has.letter)
 
   -- a train that asks stands on one segment
-  asks_standing : (t : ℕ) → passes (s.trains t).job ≡ false → s.run t ≡ Clear (place_of (s.trains t))
+  asks_standing : (t : ℕ) → is_pass (s.trains t).job ≡ false → s.run t ≡ Clear (place_of (s.trains t))
   asks_standing t active = let stands = (agrees.passage t).stands in grind (arith, nat_tests)
 
   -- and that isn't what it releases
@@ -120,7 +122,7 @@ module _ (net : NetworkPlan) (line : Line) (tries : ℕ) (s : State) (network : 
 
   passing_mail : (t : ℕ) → is_passing (s.trains t) ≡ true → s.mail t ≡ Empty
   passing_mail t h =
-      let parts = and_parts (s.trains t).waits (passes (s.trains t).job) h in
+      let parts = and_parts (s.trains t).waits (is_pass (s.trains t).job) h in
       agrees.mailboxes.empty t (ap (λ c. (s.trains t).waits && not c) parts.1 ∙ ap (λ c. c && false) parts.0)
 
   -- so it holds and has locked what is of its job
@@ -128,7 +130,7 @@ module _ (net : NetworkPlan) (line : Line) (tries : ℕ) (s : State) (network : 
       → is_held_by t (s.resv b x) ≡ (line.ends t (s.trains t).step b x || line.ends t ((s.trains t).step + 1) b x)
   passing_holding t b x h =
       agrees.reservations.exact t b x ∙ by_job (passing_mail t h)
-      ∙ passing_holds (row_of line t (s.trains t)) (s.trains t).job _ _ b x (and_parts (s.trains t).waits (passes (s.trains t).job) h).1
+      ∙ passing_holds (row_of line t (s.trains t)) (s.trains t).job _ _ b x (and_parts (s.trains t).waits (is_pass (s.trains t).job) h).1
     where
       by_job : s.mail t ≡ Empty → holds line s t b x ≡ job_holds line t (s.trains t) b x
       by_job mail = ap (λ m. held_with (done_in (λ c. has_done_for t (s.boxes c)) m) b x (job_holds line t (s.trains t) b x)) mail
@@ -137,7 +139,7 @@ module _ (net : NetworkPlan) (line : Line) (tries : ℕ) (s : State) (network : 
       → is_locked_by (s.lock b) t x y ≡ (at (row_of line t (s.trains t)).b (row_of line t (s.trains t)).x b x && (row_of line t (s.trains t)).y.0 == y)
   passing_locking t b x y h =
       agrees.locks.exact t b x y ∙ by_job (passing_mail t h)
-      ∙ passing_locks (row_of line t (s.trains t)) (s.trains t).job b x y (and_parts (s.trains t).waits (passes (s.trains t).job) h).1
+      ∙ passing_locks (row_of line t (s.trains t)) (s.trains t).job b x y (and_parts (s.trains t).waits (is_pass (s.trains t).job) h).1
     where
       by_job : s.mail t ≡ Empty → has_lock line s t b x y ≡ job_locks line t (s.trains t) b x y
       by_job mail = ap (λ m. locked_with (done_in (λ c. has_done_for t (s.boxes c)) m) b x y (job_locks line t (s.trains t) b x y)) mail
@@ -223,21 +225,21 @@ module _ (net : NetworkPlan) (line : Line) (tries : ℕ) (s : State) (network : 
   joins_net : (b x y : ℕ) (side : Side) (answer : Bool) → arms_join (line.kind b) x y side ≡ answer → arms_join (kind_of net b) x y side ≡ answer
   joins_net b x y side answer h = ap (λ k. arms_join k x y side) (sym (of.kind b)) ∙ h
 
-  lock_now_moves : (b t : ℕ) (l : Letter) (side : Side) → Fits line s (lock_now b t l side) → HasTaken line s b t l
+  lock_now_moves : (b t : ℕ) (l : Letter) (side : Side) → StepFits line s (lock_now b t l side) → HasTaken line s b t l
       → IsMove net (world_at net s) (world_at net (next line s (lock_now b t l side))) (moves.Lock (train t) (box b) (seg_at line b l.x) (seg_at line b l.y))
   lock_now_moves b t l side fits has =
       let held = lock_held line tries s b t l laws agrees has fits.1 in
       lock_moves net line s b (path_of (train t) l) are (asked_at b t l has fits.1) side (Locked (path_of (train t) l)) fits.2 held.0 held.1 (λ u f g. refl)
       (stands_now (kind_of net b) l.x.0 l.y.0 side (joins_net b l.x.0 l.y.0 side true fits.3))
 
-  lock_ask_moves : (b t : ℕ) (l : Letter) (side : Side) → Fits line s (lock_ask b t l side) → HasTaken line s b t l
+  lock_ask_moves : (b t : ℕ) (l : Letter) (side : Side) → StepFits line s (lock_ask b t l side) → HasTaken line s b t l
       → IsMove net (world_at net s) (world_at net (next line s (lock_ask b t l side))) (moves.Lock (train t) (box b) (seg_at line b l.x) (seg_at line b l.y))
   lock_ask_moves b t l side fits has =
       let held = lock_held line tries s b t l laws agrees has fits.1 in
       lock_moves net line s b (path_of (train t) l) are (asked_at b t l has fits.1) side (Asked (path_of (train t) l)) fits.2 held.0 held.1 (λ u f g. refl)
       (stands_asked (kind_of net b) l.x.0 l.y.0 side (joins_net b l.x.0 l.y.0 side false fits.3) (joins_net b l.x.0 l.y.0 (other_side side) true fits.4))
 
-  unlock_step_moves : (b t : ℕ) (l : Letter) (side : Side) → Fits line s (unlock b t l side) → HasTaken line s b t l
+  unlock_step_moves : (b t : ℕ) (l : Letter) (side : Side) → StepFits line s (unlock b t l side) → HasTaken line s b t l
       → IsMove net (world_at net s) (world_at net (next line s (unlock b t l side))) (moves.Unlock (train t) (box b))
   unlock_step_moves b t l side fits has =
       unlock_moves net line s b (path_of (train t) l) are (unlocked_at b t l has fits.1) side fits.2
@@ -293,7 +295,7 @@ module _ (net : NetworkPlan) (line : Line) (tries : ℕ) (s : State) (network : 
       (subst (λ z. IsOwnPath line p.train.0 (s.trains p.train.0) z p.x.0 p.y.0) has.to
       (lock_path line tries s p.train.0 (letter_of_path b p) agrees has.waits has.letter refl))
 
-  settle_step_moves : (b : ℕ) (p : Path) → Fits line s (settle b p) → Known line s (settle b p)
+  settle_step_moves : (b : ℕ) (p : Path) → StepFits line s (settle b p) → Known line s (settle b p)
       → MovesBy net (world_at net s) (world_at net (next line s (settle b p))) (move_of line (settle b p))
   settle_step_moves b p fits known =
       let path = waited_at b p known.1 in
@@ -302,7 +304,7 @@ module _ (net : NetworkPlan) (line : Line) (tries : ℕ) (s : State) (network : 
       (sym (ap (λ k. joining_side k p.x.0 p.y.0) (of.kind b) ∙ side.1))
       (settle_moves net line s b p are path side.0 fits (point_at b p known.0) side.1)
 
-  enter_step_moves : (t k : ℕ) → Fits line s (enter t k)
+  enter_step_moves : (t k : ℕ) → StepFits line s (enter t k)
       → IsMove net (world_at net s) (world_at net (next line s (enter t k))) (let row = line.row t k in moves.Enter (train t) row.b row.s row.s2)
   enter_step_moves t k fits =
       let passing = run_passing s t k (agrees.passage t) (inl fits.1) in
@@ -315,14 +317,14 @@ module _ (net : NetworkPlan) (line : Line) (tries : ℕ) (s : State) (network : 
         enter_points t k passing.0 passing.1,
       )
 
-  leave_step_moves : (t k : ℕ) → Fits line s (leave t k)
+  leave_step_moves : (t k : ℕ) → StepFits line s (leave t k)
       → IsMove net (world_at net s) (world_at net (next line s (leave t k))) (moves.Leave (train t) (line.row t k).s)
   leave_step_moves t k fits =
       let passing = run_passing s t k (agrees.passage t) (inr fits.1) in
       let within : k < line.steps t = subst (λ z. z < line.steps t) passing.1 (passing_within t passing.0) in
       leave_moves net line s t k (row_step t k within) fits.1 (row_apart t k within)
 
-  pub moved_by : (step : Step) → Fits line s step → Known line s step → MovesBy net (world_at net s) (world_at net (next line s step)) (move_of line step)
+  pub moved_by : (step : Step) → StepFits line s step → Known line s step → MovesBy net (world_at net s) (world_at net (next line s step)) (move_of line step)
   moved_by (post t l) fits known = refl
   moved_by (hear_yes t l) fits known = refl
   moved_by (hear_no t l u job) fits known = refl

@@ -1,5 +1,6 @@
 -- The moves of steps name trains, segments and boxes of the network.
-use Rattle.std.proofs.Common.{◌≡◌, ℕ, zero, suc, ◌+◌, ◌<◌, true, List, [], ◌∷◌, ◌++◌, length, slice_get, Option, Some, None, refl, sym, ap, ◌∙◌, subst, inl, inr, ⊎_elim, arith}
+use Rattle.std.proofs.Common.{◌≡◌, ℕ, zero, suc, ◌+◌, ◌<◌, true, List, [], ◌∷◌, ◌++◌, length, slice_get, Option, Some, None, refl, sym, ap, ◌∙◌, subst, inl}
+use Rattle.std.proofs.Common.{inr, ⊎_elim, arith}
 use Rattle.std.specs.Prelude.{option_map, option_to_list}
 use Rattle.std.specs.Option.{option_map_or}
 use Rattle.std.proofs.lemmas.Bool.{false≢true, cases_eq, eq-eqb, and_from}
@@ -24,9 +25,10 @@ use Rattle.rl_box.specs.Steps.{path_of}
 use Rattle.rl_protocol.specs.Line.{Line, same_number, is_held_by, IsConsistent}
 use Rattle.rl_protocol.specs.State.{State}
 use Rattle.rl_protocol.specs.Minds.{train, box}
-use Rattle.rl_protocol.specs.Steps.{Step, post, hear_yes, hear_no, go, quiet, take, grant, refuse, release, lock_now, lock_ask, lock_moved, unlock, say_yes, say_no, busy, throw, settle, enter, head, leave, tail, Fits}
+use Rattle.rl_protocol.specs.Steps.{Step, post, hear_yes, hear_no, go, quiet, take, grant, refuse, release, lock_now, lock_ask, lock_moved, unlock, say_yes}
+use Rattle.rl_protocol.specs.Steps.{say_no, busy, throw, settle, enter, head, leave, tail, StepFits}
 use Rattle.rl_protocol.specs.StepMoves.{seg_at, refusal_of, move_of}
-use Rattle.rl_protocol.specs.Runs.{state_after, IsRun, moves_of}
+use Rattle.rl_protocol.specs.Runs.{state_after, IsStepRun, moves_of}
 use Rattle.rl_protocol.specs.Agreement.{Agrees, is_passing, is_locked_by, lock_holder, HasWhatIsAsked}
 use Rattle.rl_protocol.specs.Worlds.{IsLineOf, IsRailway}
 use Rattle.rl_protocol.proofs.Known.{Known, HasTaken}
@@ -139,13 +141,13 @@ module _ (net : NetworkPlan) (line : Line) (tries : ℕ) (s : State) (network : 
   settle_named b None there = tt
   settle_named b (Some side) there = there
 
-  pub named_by : (step : Step) → Fits line s step → Known line s step → NamedBy net (move_of line step)
+  pub named_by : (step : Step) → StepFits line s step → Known line s step → NamedBy net (move_of line step)
   named_by step fits known = for step fits known (with_steps (about step) (about_within line tries s step agrees fits known))
     where
       passing_at : (t k : ℕ) → (is_passing (s.trains t) ≡ true) × ((s.trains t).step ≡ k) → k < line.steps t
       passing_at t k h = subst (λ z. z < line.steps t) h.1 (passing_within net line tries s network are of laws agrees t h.0)
 
-      for : (step : Step) → Fits line s step → Known line s step → about step < length net.trains → NamedBy net (move_of line step)
+      for : (step : Step) → StepFits line s step → Known line s step → about step < length net.trains → NamedBy net (move_of line step)
       for (post t l) fits known there = tt
       for (hear_yes t l) fits known there = tt
       for (hear_no t l u job) fits known there = tt
@@ -182,9 +184,9 @@ module _ (net : NetworkPlan) (line : Line) (tries : ℕ) (s : State) (network : 
       for (tail t k) fits known there = tt
 
 pub step_named : (net : NetworkPlan) (line : Line) (tries : ℕ) (s : State) (step : Step) (m : Move) → IsRailway net line → Agrees line tries s
-    → Fits line s step → move_of line step ≡ Some m → IsMoveOf net m
+    → StepFits line s step → move_of line step ≡ Some m → IsMoveOf net m
 step_named net line tries s step m is old fits h =
-    subst (NamedBy net) h (named_by net line tries s is.network (placed net is.network) is.line_of is.consistent old step fits
+    subst (NamedBy net) h (named_by net line tries s is.network (placed net is.network) is.line_is is.consistent old step fits
     (known_of line tries s step old fits))
 
 -- what holds of the items of two lists holds of those of both together
@@ -194,7 +196,7 @@ both_lists P [] ys f g k m h = g k m h
 both_lists P (x ∷ xs) ys f g zero m h = f zero m h
 both_lists P (x ∷ xs) ys f g (suc k) m h = both_lists P xs ys (λ j. f (suc j)) g k m h
 
-pub run_named : (net : NetworkPlan) (line : Line) (tries : ℕ) (steps : List Step) → IsRailway net line → IsRun line tries steps → (k : ℕ) (m : Move)
+pub run_named : (net : NetworkPlan) (line : Line) (tries : ℕ) (steps : List Step) → IsRailway net line → IsStepRun line tries steps → (k : ℕ) (m : Move)
     → slice_get (moves_of line steps) k ≡ Some m → IsMoveOf net m
 run_named net line tries [] is run k m h = absurd (cc)
 run_named net line tries (step ∷ steps) is run k m h =

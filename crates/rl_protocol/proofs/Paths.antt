@@ -10,7 +10,8 @@ use Rattle.rl_train.specs.declared.mind.TrainMind.{TrainMind}
 use Rattle.rl_words.specs.declared.lock.Path.{Path}
 use Rattle.rl_words.specs.declared.mail.Letter.{Letter}
 use Rattle.rl_words.specs.declared.mail.MailWord.TheVariants.{Taken, Yes}
-use Rattle.rl_protocol.specs.Line.{Line, at, is_held_by, IsConsistent}
+use Rattle.rl_train.specs.Jobs.{at}
+use Rattle.rl_protocol.specs.Line.{Line, is_held_by, IsConsistent}
 use Rattle.rl_protocol.specs.State.{State}
 use Rattle.rl_protocol.specs.Minds.{row_of, letter_of}
 use Rattle.rl_protocol.specs.Held.{done_letter, holds, has_lock, job_holds, job_locks, locked_after, locked_with}

@@ -10,7 +10,7 @@ use Rattle.rl_words.specs.declared.lock.Path.{Path}
 use Rattle.rl_protocol.specs.Line.{Line}
 use Rattle.rl_protocol.specs.State.{State}
 use Rattle.rl_box.specs.Steps.{other_side}
-use Rattle.rl_protocol.specs.Steps.{Step, Fits, next}
+use Rattle.rl_protocol.specs.Steps.{Step, StepFits, next}
 use Rattle.rl_protocol.specs.Agreement.{path_in_setting}
 use Rattle.rl_protocol.proofs.Known.{Known}
 
@@ -21,10 +21,10 @@ point_turns Joint x y side h k = absurd (false≢true (sym h ∙ k))
 point_turns Point x y side h k = refl
 point_turns Crossing x y side h k = absurd (false≢true (sym h ∙ k))
 
-pub waiting_kept : (line : Line) (s : State) (step : Step) (b : ℕ) → (s.boxes b).waiting ≡ path_in_setting (s.lock b) → Fits line s step → Known line s step
+pub waiting_kept : (line : Line) (s : State) (step : Step) (b : ℕ) → (s.boxes b).waiting ≡ path_in_setting (s.lock b) → StepFits line s step → Known line s step
     → ((next line s step).boxes b).waiting ≡ path_in_setting ((next line s step).lock b)
 waiting_kept line s step b old fits known = grind (arith, nat_tests)
 
-pub points_kept : (line : Line) (s : State) (step : Step) (b : ℕ) (p : Path) → ((s.boxes b).waiting ≡ Some p → line.kind b ≡ Point) → Fits line s step
+pub points_kept : (line : Line) (s : State) (step : Step) (b : ℕ) (p : Path) → ((s.boxes b).waiting ≡ Some p → line.kind b ≡ Point) → StepFits line s step
     → ((next line s step).boxes b).waiting ≡ Some p → line.kind b ≡ Point
 points_kept line s step b p old fits h = grind (arith, nat_tests, point_turns)

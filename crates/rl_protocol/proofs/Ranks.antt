@@ -24,9 +24,10 @@ use Rattle.rl_box.specs.declared.mind.Work.TheVariants.{Ready, Serve, Say}
 use Rattle.rl_track.specs.declared.track.TrackPhase.{TrackPhase}
 use Rattle.rl_track.specs.declared.track.TrackPhase.TheVariants.{HeadDue, TailDue}
 use Rattle.rl_protocol.specs.Line.{Line}
-use Rattle.rl_protocol.specs.Jobs.{letter_at, job_after_yes, job_after_no, passes, begins}
+use Rattle.rl_train.specs.Jobs.{letter, after_yes, after_no, is_pass, is_near}
 use Rattle.rl_protocol.specs.State.{State, start}
-use Rattle.rl_protocol.specs.Steps.{Step, post, hear_yes, hear_no, go, quiet, take, grant, refuse, release, lock_now, lock_ask, lock_moved, unlock, say_yes, say_no, busy, throw, settle, enter, head, leave, tail}
+use Rattle.rl_protocol.specs.Steps.{Step, post, hear_yes, hear_no, go, quiet, take, grant, refuse, release, lock_now, lock_ask, lock_moved, unlock, say_yes}
+use Rattle.rl_protocol.specs.Steps.{say_no, busy, throw, settle, enter, head, leave, tail}
 use Rattle.rl_protocol.specs.Held.{is_path_of}
 
 -- what each kind of step weighs. A box grants or denies what it is asked, and tells the answer
@@ -171,19 +172,19 @@ run_rank w phase (Clear k) = clear_rank w phase
 
 -- the rank of train t: all that an attempt can weigh where none is open
 abbrev pub ready_rank : Weights → Job → ℕ
-ready_rank w job = if begins job then attempt_weight w else job_rank w job
+ready_rank w job = if is_near job then attempt_weight w else job_rank w job
 
 abbrev pub rank : Weights → State → ℕ → ℕ
 rank w s t =
     let m = s.trains t in
     if m.waits
-    then job_rank w m.job + (if passes m.job then run_rank w (s.tracks t).phase (s.run t) else mail_rank w s t (s.mail t))
+    then job_rank w m.job + (if is_pass m.job then run_rank w (s.tracks t).phase (s.run t) else mail_rank w s t (s.mail t))
     else ready_rank w m.job
 
 -- with the answer heard a letter has weighed what it can
-pub rank_heard : (w : Weights) (row : StepRow) (job : Job) (l : Letter) → letter_at job row ≡ Some l
-    → job_rank w job + letter_weight w + verb_weight w l.verb ≤ ready_rank w (job_after_yes row job)
-unfolding letter_at job_after_yes job_rank begins
+pub rank_heard : (w : Weights) (row : StepRow) (job : Job) (l : Letter) → letter row job ≡ Some l
+    → job_rank w job + letter_weight w + verb_weight w l.verb ≤ ready_rank w (after_yes row job)
+unfolding letter after_yes job_rank is_near
 rank_heard w row jobs.Near l h = grind arith
 rank_heard w row jobs.Far l h = grind arith
 rank_heard w row jobs.Lock l h = grind arith
@@ -194,8 +195,8 @@ rank_heard w row jobs.FreeFar l h = grind arith
 rank_heard w row jobs.DropFar l h = grind arith
 rank_heard w row jobs.DropNear l h = grind arith
 
-pub rank_denied : (w : Weights) (row : StepRow) (job new : Job) → job_after_no row job ≡ Some new → job_rank w job + letter_weight w ≤ ready_rank w new
-unfolding job_after_no job_rank begins
+pub rank_denied : (w : Weights) (row : StepRow) (job new : Job) → after_no row job ≡ Some new → job_rank w job + letter_weight w ≤ ready_rank w new
+unfolding after_no job_rank is_near
 rank_denied w row jobs.Near new h = grind arith
 rank_denied w row jobs.Far new h = grind arith
 rank_denied w row jobs.Lock new h = grind arith
@@ -206,8 +207,8 @@ rank_denied w row jobs.FreeFar new h = grind arith
 rank_denied w row jobs.DropFar new h = grind arith
 rank_denied w row jobs.DropNear new h = grind arith
 
-pub rank_passed : (w : Weights) (row : StepRow) (job : Job) → passes job ≡ true → job_rank w job + passage_weight w ≤ ready_rank w (job_after_yes row job)
-unfolding passes job_after_yes job_rank begins
+pub rank_passed : (w : Weights) (row : StepRow) (job : Job) → is_pass job ≡ true → job_rank w job + passage_weight w ≤ ready_rank w (after_yes row job)
+unfolding is_pass after_yes job_rank is_near
 rank_passed w row jobs.Near h = cc
 rank_passed w row jobs.Far h = cc
 rank_passed w row jobs.Lock h = cc
@@ -218,8 +219,8 @@ rank_passed w row jobs.FreeFar h = cc
 rank_passed w row jobs.DropFar h = cc
 rank_passed w row jobs.DropNear h = cc
 
-pub rank_opened : (w : Weights) (job : Job) → begins job ≡ true → job_rank w job ≡ 0
-unfolding begins job_rank
+pub rank_opened : (w : Weights) (job : Job) → is_near job ≡ true → job_rank w job ≡ 0
+unfolding is_near job_rank
 rank_opened w jobs.Near h = refl
 rank_opened w jobs.Far h = cc
 rank_opened w jobs.Lock h = cc
@@ -232,7 +233,7 @@ rank_opened w jobs.DropNear h = cc
 
 -- no rank is above what an attempt can weigh
 pub rank_ready : (w : Weights) (job : Job) → ready_rank w job ≤ attempt_weight w
-unfolding job_rank begins
+unfolding job_rank is_near
 rank_ready w jobs.Near = omega arith
 rank_ready w jobs.Far = omega arith
 rank_ready w jobs.Lock = omega arith
@@ -243,9 +244,9 @@ rank_ready w jobs.FreeFar = omega arith
 rank_ready w jobs.DropFar = omega arith
 rank_ready w jobs.DropNear = omega arith
 
-pub rank_asking : (w : Weights) (row : StepRow) (job : Job) (l : Letter) → letter_at job row ≡ Some l
+pub rank_asking : (w : Weights) (row : StepRow) (job : Job) (l : Letter) → letter row job ≡ Some l
     → job_rank w job + letter_weight w + verb_weight w l.verb ≤ attempt_weight w
-unfolding letter_at job_rank
+unfolding letter job_rank
 rank_asking w row jobs.Near l h = grind arith
 rank_asking w row jobs.Far l h = grind arith
 rank_asking w row jobs.Lock l h = grind arith
@@ -256,8 +257,8 @@ rank_asking w row jobs.FreeFar l h = grind arith
 rank_asking w row jobs.DropFar l h = grind arith
 rank_asking w row jobs.DropNear l h = grind arith
 
-pub rank_passing : (w : Weights) (job : Job) → passes job ≡ true → job_rank w job + passage_weight w ≤ attempt_weight w
-unfolding passes job_rank
+pub rank_passing : (w : Weights) (job : Job) → is_pass job ≡ true → job_rank w job + passage_weight w ≤ attempt_weight w
+unfolding is_pass job_rank
 rank_passing w jobs.Near h = cc
 rank_passing w jobs.Far h = cc
 rank_passing w jobs.Lock h = cc
@@ -299,5 +300,5 @@ box_bounded w t m v verb says waits one = of m.work m.waiting refl refl
 
 -- at the start no attempt is open
 pub rank_starts : (w : Weights) (line : Line) (tries t : ℕ) → rank w (start line tries) t ≡ attempt_weight w
-unfolding begins
+unfolding is_near
 rank_starts w line tries t = refl

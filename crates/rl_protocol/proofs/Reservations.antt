@@ -4,10 +4,12 @@ use Rattle.std.proofs.lemmas.Bool.{or_left}
 use Rattle.std.proofs.lemmas.Bool.Decides.{nat_tests}
 use Rattle.rl_words.specs.declared.mail.Letter.{Letter}
 use Rattle.rl_words.specs.declared.mail.MailWord.TheVariants.{Yes}
-use Rattle.rl_protocol.specs.Line.{Line, at, is_held_by, IsConsistent}
+use Rattle.rl_train.specs.Jobs.{at}
+use Rattle.rl_protocol.specs.Line.{Line, is_held_by, IsConsistent}
 use Rattle.rl_protocol.specs.State.{State}
 use Rattle.rl_protocol.specs.Minds.{heard, row_of, letter_of}
-use Rattle.rl_protocol.specs.Steps.{Step, post, hear_yes, hear_no, go, quiet, take, grant, refuse, release, lock_now, lock_ask, lock_moved, unlock, say_yes, say_no, busy, throw, settle, enter, head, leave, tail, Fits, next}
+use Rattle.rl_protocol.specs.Steps.{Step, post, hear_yes, hear_no, go, quiet, take, grant, refuse, release, lock_now, lock_ask, lock_moved, unlock, say_yes}
+use Rattle.rl_protocol.specs.Steps.{say_no, busy, throw, settle, enter, head, leave, tail, StepFits, next}
 use Rattle.rl_protocol.specs.Held.{holds, held_after, job_holds}
 use Rattle.rl_protocol.specs.Agreement.{AgreesOnAttempts}
 use Rattle.rl_protocol.proofs.Known.{Known}
@@ -21,7 +23,7 @@ reserved_heard : (line : Line) (s : State) (t : ℕ) (l : Letter) (u c i : ℕ) 
 reserved_heard line s t l u c i old mail same = grind (arith, nat_tests)
 
 pub reserved_kept : (line : Line) (tries : ℕ) (s : State) (step : Step) (u c i : ℕ) → IsConsistent line → ((t : ℕ) → AgreesOnAttempts line tries s t)
-    → is_held_by u (s.resv c i) ≡ holds line s u c i → Fits line s step → Known line s step
+    → is_held_by u (s.resv c i) ≡ holds line s u c i → StepFits line s step → Known line s step
     → is_held_by u ((next line s step).resv c i) ≡ holds line (next line s step) u c i
 reserved_kept line tries s (post t l) u c i laws attempts old fits known = grind (arith, nat_tests)
 reserved_kept line tries s (hear_no t l w job) u c i laws attempts old fits known = grind (arith, nat_tests, denied_holds)
@@ -50,13 +52,13 @@ reserved_kept line tries s (hear_yes t l) u c i laws attempts old fits known =
 
 -- arms that aren't there stay free: a letter names one that is there
 pub free_kept : (line : Line) (tries : ℕ) (s : State) (step : Step) (b x : ℕ) → IsConsistent line → ((t : ℕ) → AgreesOnAttempts line tries s t)
-    → (line.has_arm b x ≡ false → s.resv b x ≡ None) → Fits line s step → Known line s step → line.has_arm b x ≡ false → (next line s step).resv b x ≡ None
+    → (line.has_arm b x ≡ false → s.resv b x ≡ None) → StepFits line s step → Known line s step → line.has_arm b x ≡ false → (next line s step).resv b x ≡ None
 free_kept line tries s step b x laws attempts old fits known h =
     free_from line s step b x old fits known
     (λ t l waits is. letter_arm line (row_of line t (s.trains t)) (s.trains t).job l
     (row_arms line t (s.trains t).step laws ((attempts t).under_way (or_left (s.trains t).waits _ waits))) is) h
   where
-    free_from : (line : Line) (s : State) (step : Step) (b x : ℕ) → (line.has_arm b x ≡ false → s.resv b x ≡ None) → Fits line s step → Known line s step
+    free_from : (line : Line) (s : State) (step : Step) (b x : ℕ) → (line.has_arm b x ≡ false → s.resv b x ≡ None) → StepFits line s step → Known line s step
         → ((t : ℕ) (l : Letter) → (s.trains t).waits ≡ true → letter_of line t (s.trains t) ≡ Some l → line.has_arm l.to.0 l.x.0 ≡ true)
         → line.has_arm b x ≡ false → (next line s step).resv b x ≡ None
     free_from line s step b x old fits known there h = grind (arith, nat_tests, there)

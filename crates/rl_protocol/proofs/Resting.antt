@@ -1,5 +1,6 @@
 -- Trains at rest: what they hold, and how the world stands then.
-use Rattle.std.proofs.Common.{◌≡◌, ℕ, ◌+◌, ◌<◌, ◌≤◌, ◌==◌, Bool, true, false, cond, not, ◌&&◌, length, slice_get, Option, Some, None, refl, ap, ◌∙◌, subst, arith}
+use Rattle.std.proofs.Common.{◌≡◌, ℕ, ◌+◌, ◌<◌, ◌≤◌, ◌==◌, Bool, true, false, cond, not, ◌&&◌, length, slice_get, Option, Some, None, refl, ap, ◌∙◌, subst}
+use Rattle.std.proofs.Common.{arith}
 use Rattle.std.specs.Prelude.{is_some, option_map, option_and_then}
 use Rattle.std.specs.Option.{option_map_or}
 use Rattle.std.proofs.lemmas.Bool.{eq-eqb, and_parts, and_from, both_ways, not-true}
@@ -16,31 +17,31 @@ use Rattle.rl_words.specs.declared.lock.Path.{Path}
 use Rattle.rl_words.specs.declared.mail.MailWord.TheVariants.{Empty}
 use Rattle.rl_words.specs.declared.run.RunWord.TheVariants.{Clear}
 use Rattle.rl_protocol.specs.Line.{Line, is_held_by, is_number, same_number}
-use Rattle.rl_protocol.specs.Jobs.{begins, passes}
+use Rattle.rl_train.specs.Jobs.{is_near, is_pass}
 use Rattle.rl_protocol.specs.State.{State}
 use Rattle.rl_protocol.specs.Minds.{at_rest, row_of}
 use Rattle.rl_protocol.specs.Held.{has_done_for, done_in, held_with, locked_with, job_holds, job_locks}
 use Rattle.rl_protocol.specs.Agreement.{Agrees, is_locked_by}
 use Rattle.rl_protocol.specs.Worlds.{IsRailway, stands_on, is_across, locks, world_at}
-use Rattle.rl_protocol.specs.Rest.{AllRest, IsAtRest}
+use Rattle.rl_protocol.specs.Rest.{AllAtRest, HoldsSegmentsAlone}
 use Rattle.rl_protocol.proofs.Jobs.{beginning_holds, beginning_unlocked, beginning_place}
 use Rattle.rl_protocol.proofs.Places.{placed}
 use Rattle.rl_protocol.proofs.Passing.{number_is}
 use Rattle.rl_protocol.proofs.Moved.{item_there}
 
 -- a train that rests waits for nothing, and is about to begin
-resting : (line : Line) (s : State) (t : ℕ) → at_rest line t (s.trains t) ≡ true → ((s.trains t).waits ≡ false) × (begins (s.trains t).job ≡ true)
+resting : (line : Line) (s : State) (t : ℕ) → at_rest line t (s.trains t) ≡ true → ((s.trains t).waits ≡ false) × (is_near (s.trains t).job ≡ true)
 resting line s t h = let parts = and_parts _ _ (and_parts _ _ h).0 in (not-true _ parts.0, parts.1)
 
 module _ (line : Line) (tries : ℕ) (s : State) (agrees : Agrees line tries s) (t : ℕ) (rests : at_rest line t (s.trains t) ≡ true) where
   waits_not : (s.trains t).waits ≡ false
   waits_not = (resting line s t rests).0
 
-  may_begin : begins (s.trains t).job ≡ true
+  may_begin : is_near (s.trains t).job ≡ true
   may_begin = (resting line s t rests).1
 
   pub rest_mail : s.mail t ≡ Empty
-  rest_mail = agrees.mailboxes.empty t (ap (λ c. c && not (passes (s.trains t).job)) waits_not)
+  rest_mail = agrees.mailboxes.empty t (ap (λ c. c && not (is_pass (s.trains t).job)) waits_not)
 
   pub rest_holds : (b x : ℕ) → is_held_by t (s.resv b x) ≡ line.ends t (s.trains t).step b x
   rest_holds b x =
@@ -54,7 +55,7 @@ module _ (line : Line) (tries : ℕ) (s : State) (agrees : Agrees line tries s) 
 
   pub rest_run : s.run t ≡ Clear (s.trains t).step
   rest_run =
-      let stands = (agrees.passage t).stands (ap (λ c. c && passes (s.trains t).job) waits_not) in
+      let stands = (agrees.passage t).stands (ap (λ c. c && is_pass (s.trains t).job) waits_not) in
       stands.0 ∙ ap (λ c. Clear (cond c ((s.trains t).step + 1) (s.trains t).step)) (beginning_place (s.trains t).job may_begin)
 
 -- a path of a lock is its own
@@ -71,7 +72,7 @@ free_lock (Moving p) none = absurd (own_lock (Moving p) p none (λ u x y. refl))
 free_lock (Moved p) none = absurd (own_lock (Moved p) p none (λ u x y. refl))
 free_lock (Locked p) none = absurd (own_lock (Locked p) p none (λ u x y. refl))
 
-pub all_at_rest : (line : Line) (tries : ℕ) (s : State) → Agrees line tries s → AllRest line s → IsAtRest line s
+pub all_at_rest : (line : Line) (tries : ℕ) (s : State) → Agrees line tries s → AllAtRest line s → HoldsSegmentsAlone line s
 all_at_rest line tries s agrees rest =
     record {
       holds = λ t b x. rest_holds line tries s agrees t (rest t) b x;
@@ -113,7 +114,7 @@ pub rests_in_world : (net : NetworkPlan) (line : Line) (tries : ℕ) (s : State)
 rests_in_world net line tries s t is agrees there rests =
     let k = (s.trains t).step in
     let run = rest_run line tries s agrees t rests in
-    let segment = route_there net t k is.network there (subst (λ n. k ≤ n) (is.line_of.steps t) (agrees.attempts t).within) in
+    let segment = route_there net t k is.network there (subst (λ n. k ≤ n) (is.line_is.steps t) (agrees.attempts t).within) in
     record {
       off = λ b from to. ap (λ v. is_across (route_segment net t) (route_box net t) v b from to) run;
       segment = segment.0;
@@ -130,7 +131,7 @@ rests_in_world net line tries s t is agrees there rests =
         and_false true = refl
         and_false false = refl
     at_arm r b segment on (Some x) h =
-        rest_holds line tries s agrees t rests b x ∙ is.line_of.ends t (s.trains t).step b x
+        rest_holds line tries s agrees t rests b x ∙ is.line_is.ends t (s.trains t).step b x
         ∙ ap (λ o. same_number o (route_segment net t (s.trains t).step)) ((placed net is.network).to_segment r b x h)
         ∙ ap (λ o. is_number o r) on ∙ turned segment r
       where

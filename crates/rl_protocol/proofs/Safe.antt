@@ -19,9 +19,9 @@ use Rattle.rl_model.proofs.Kept.{safe_run}
 use Rattle.rl_protocol.specs.Line.{Line, is_held_by, IsConsistent, same_number}
 use Rattle.rl_protocol.specs.State.{State}
 use Rattle.rl_protocol.specs.State.{start as start_state}
-use Rattle.rl_protocol.specs.Steps.{Step, Fits, next}
+use Rattle.rl_protocol.specs.Steps.{Step, StepFits, next}
 use Rattle.rl_protocol.specs.StepMoves.{move_of}
-use Rattle.rl_protocol.specs.Runs.{state_after, IsRun, moves_of}
+use Rattle.rl_protocol.specs.Runs.{state_after, IsStepRun, moves_of}
 use Rattle.rl_protocol.specs.Agreement.{Agrees}
 use Rattle.rl_protocol.specs.Worlds.{IsLineOf, IsRailway, standing, world_at}
 use Rattle.rl_protocol.proofs.Agreed.{agrees, known_of}
@@ -30,10 +30,10 @@ use Rattle.rl_protocol.proofs.Reserving.{IsMove}
 use Rattle.rl_protocol.proofs.Moved.{MovesBy, moved_by}
 
 -- each step moves the world of the state by its move
-pub step_moves : (net : NetworkPlan) (line : Line) (tries : ℕ) (s : State) (step : Step) → IsRailway net line → Agrees line tries s → Fits line s step
+pub step_moves : (net : NetworkPlan) (line : Line) (tries : ℕ) (s : State) (step : Step) → IsRailway net line → Agrees line tries s → StepFits line s step
     → MovesBy net (world_at net s) (world_at net (next line s step)) (move_of line step)
 step_moves net line tries s step is old fits =
-    moved_by net line tries s is.network (placed net is.network) is.line_of is.consistent old step fits (known_of line tries s step old fits)
+    moved_by net line tries s is.network (placed net is.network) is.line_is is.consistent old step fits (known_of line tries s step old fits)
 
 -- at the start who holds a place is who starts on its segment
 start_holds : (net : NetworkPlan) (line : Line) (t s b : ℕ) (o : Option ℕ) → ArePlaced net → IsLineOf net line → IsConsistent line → arm_of net s b ≡ o
@@ -69,9 +69,9 @@ start_stands net b network = of (slice_get net.boxes b) (λ x h. (network.boxes 
 pub start_world : (net : NetworkPlan) (line : Line) (tries : ℕ) → IsRailway net line → world_at net (start_state line tries) ≡ start net
 start_world net line tries is =
     ap (λ h. record (world_at net (start_state line tries)) { holds = h })
-    (fun_ext (λ t. fun_ext (λ s. fun_ext (λ b. start_holds net line t s b (arm_of net s b) (placed net is.network) is.line_of is.consistent refl))))
+    (fun_ext (λ t. fun_ext (λ s. fun_ext (λ b. start_holds net line t s b (arm_of net s b) (placed net is.network) is.line_is is.consistent refl))))
     ∙ ap (λ p. record (start net) { points = p })
-    (fun_ext (λ b. ap (standing (kind_of net b)) (is.line_of.side b) ∙ start_stands net b is.network))
+    (fun_ext (λ b. ap (standing (kind_of net b)) (is.line_is.side b) ∙ start_stands net b is.network))
 
 -- a guarded list of moves and one guarded move more
 guarded_more : (net : NetworkPlan) (w : World) (ms : List Move) (m : Move) → GuardedFrom net w ms → AllHold (guards net (fold after w ms) m)
@@ -98,7 +98,8 @@ followed_more net line tries steps step (Some m) before by = (
   by.world ∙ ap (λ w. after w m) before.world ∙ sym (fold-append after (start net) (moves_of line steps) (m ∷ [])),
 )
 
-pub followed : (net : NetworkPlan) (line : Line) (tries : ℕ) (steps : List Step) → IsRailway net line → IsRun line tries steps → IsFollowed net line tries steps
+pub followed : (net : NetworkPlan) (line : Line) (tries : ℕ) (steps : List Step) → IsRailway net line → IsStepRun line tries steps
+    → IsFollowed net line tries steps
 followed net line tries [] is run = record { guarded = tt; world = start_world net line tries is }
 followed net line tries (step ∷ steps) is run =
     let before = followed net line tries steps is run.0 in
@@ -107,15 +108,17 @@ followed net line tries (step ∷ steps) is run =
     record { guarded = more.0; world = more.1 }
 
 -- what a step does where it has a move, and where it has none
-pub step_move : (net : NetworkPlan) (line : Line) (tries : ℕ) (s : State) (step : Step) (m : Move) → IsRailway net line → Agrees line tries s → Fits line s step
+pub step_move : (net : NetworkPlan) (line : Line) (tries : ℕ) (s : State) (step : Step) (m : Move) → IsRailway net line → Agrees line tries s
+    → StepFits line s step
     → move_of line step ≡ Some m → IsMove net (world_at net s) (world_at net (next line s step)) m
 step_move net line tries s step m is old fits h =
     subst (MovesBy net (world_at net s) (world_at net (next line s step))) h (step_moves net line tries s step is old fits)
 
-pub step_stays : (net : NetworkPlan) (line : Line) (tries : ℕ) (s : State) (step : Step) → IsRailway net line → Agrees line tries s → Fits line s step
+pub step_stays : (net : NetworkPlan) (line : Line) (tries : ℕ) (s : State) (step : Step) → IsRailway net line → Agrees line tries s → StepFits line s step
     → move_of line step ≡ None → world_at net (next line s step) ≡ world_at net s
 step_stays net line tries s step is old fits h =
     subst (MovesBy net (world_at net s) (world_at net (next line s step))) h (step_moves net line tries s step is old fits)
 
-pub safe : (net : NetworkPlan) (line : Line) (tries : ℕ) (steps : List Step) → IsRailway net line → IsRun line tries steps → IsSafeRun net (moves_of line steps)
+pub safe : (net : NetworkPlan) (line : Line) (tries : ℕ) (steps : List Step) → IsRailway net line → IsStepRun line tries steps
+    → IsSafeRun net (moves_of line steps)
 safe net line tries steps is run = safe_run net (moves_of line steps) is.network (followed net line tries steps is run).guarded

@@ -1,5 +1,6 @@
 -- The line that tables say is consistent, and is the line of their network.
-use Rattle.std.proofs.Common.{◌≡◌, ◌≢◌, ℕ, zero, suc, ◌+◌, ◌<◌, ◌≤◌, ◌==◌, Bool, true, false, cond, ◌&&◌, ◌||◌, List, [], ◌∷◌, length, slice_get, Option, Some, None, option_and_then, refl, sym, ap, ◌∙◌, subst, ⊎_elim, arith}
+use Rattle.std.proofs.Common.{◌≡◌, ◌≢◌, ℕ, zero, suc, ◌+◌, ◌<◌, ◌≤◌, ◌==◌, Bool, true, false, cond, ◌&&◌, ◌||◌, List, [], ◌∷◌, length, slice_get, Option, Some}
+use Rattle.std.proofs.Common.{None, option_and_then, refl, sym, ap, ◌∙◌, subst, ⊎_elim, arith}
 use Rattle.std.specs.Prelude.{is_some, option_map, unwrap_or, find}
 use Rattle.std.specs.Option.{option_map_or}
 use Rattle.std.proofs.lemmas.Bool.{false≢true, eq-eqb, eqb-true, ltb-true, and_from, or_left, or_right, or_cases, and_parts, cases_lt}
@@ -19,7 +20,7 @@ use Rattle.rl_tables.specs.declared.table.TrainTable.{TrainTable}
 use Rattle.rl_tables.specs.declared.table.Tables.{Tables}
 use Rattle.rl_tables.specs.Kept.{line_segment, IsArm, IsOnlyAt, IsLine}
 use Rattle.rl_tables.specs.Tables.{segment_in, segment_number, AreTablesOf, IsStepRow}
-use Rattle.rl_tables.specs.Starts.{holder_of}
+use Rattle.rl_tables.specs.Starts.{starter_of}
 use Rattle.rl_protocol.specs.Line.{is_number, same_number, is_held_by, IsStepOf, IsConsistent}
 use Rattle.rl_protocol.specs.Worlds.{IsLineOf, IsRailway}
 use Rattle.rl_protocol.specs.Counts.{HasTrains}
@@ -175,7 +176,7 @@ some_found {A} p (y ∷ ys) i x h pass = of (p y) refl i h (λ j k. some_found p
     of false e (suc j) h later = later j h
 
 -- the holder of a segment at the start is the train whose route begins there
-holder_is : (tables : Tables) (t s : ℕ) → IsLine tables → is_held_by t (holder_of tables s) ≡ is_number (route_of tables t 0) s
+holder_is : (tables : Tables) (t s : ℕ) → IsLine tables → is_held_by t (starter_of tables s) ≡ is_number (route_of tables t 0) s
 holder_is tables t s line = same_test _ _ there back
   where
     begins_at : TrainTable → Bool
@@ -189,11 +190,11 @@ holder_is tables t s line = same_test _ _ there back
         let same : at.0 ≡ t = sym (line.trains at.0 x at.1).number ∙ eqb-true x.number.0 t h in
         ap (λ o. is_number o s) (route_is tables t 0 x (subst (λ n. slice_get tables.trains n ≡ Some x) same at.1)) ∙ at.2
 
-    there : is_held_by t (holder_of tables s) ≡ true → is_number (route_of tables t 0) s ≡ true
+    there : is_held_by t (starter_of tables s) ≡ true → is_number (route_of tables t 0) s ≡ true
     there h = by_number (find (λ (x : TrainTable). x.first.0 == s) tables.trains) refl h
 
     by_train : (o : Option TrainTable) → slice_get tables.trains t ≡ o → is_number (option_and_then (λ (x : TrainTable). segment_of_route x 0) o) s ≡ true
-        → is_held_by t (holder_of tables s) ≡ true
+        → is_held_by t (starter_of tables s) ≡ true
     by_train None e h = absurd (false≢true h)
     by_train (Some x) e h =
         let some = some_found (λ (x : TrainTable). x.first.0 == s) tables.trains t x e h in
@@ -201,7 +202,7 @@ holder_is tables t s line = same_test _ _ there back
         let same : at.0 ≡ t = line.starts at.0 t some.0 x at.1 e (eqb-true some.0.first.0 s at.2 ∙ sym (eqb-true x.first.0 s h)) in
         ap (λ o. is_held_by t (option_map (λ (x : TrainTable). x.number) o)) some.1 ∙ eq-eqb some.0.number.0 t ((line.trains at.0 some.0 at.1).number ∙ same)
 
-    back : is_number (route_of tables t 0) s ≡ true → is_held_by t (holder_of tables s) ≡ true
+    back : is_number (route_of tables t 0) s ≡ true → is_held_by t (starter_of tables s) ≡ true
     back h = by_train (slice_get tables.trains t) refl h
 
 pub consistent_line : (tables : Tables) → IsLine tables → IsConsistent (line_of tables)
@@ -216,7 +217,7 @@ consistent_line tables line =
     has_arm None p h = absurd (false≢true h)
     has_arm (Some n) p h = refl
 
-    first_is : (o : Option ℕ) (t : ℕ) → is_held_by t (option_and_then (holder_of tables) o) ≡ same_number o (route_of tables t 0)
+    first_is : (o : Option ℕ) (t : ℕ) → is_held_by t (option_and_then (starter_of tables) o) ≡ same_number o (route_of tables t 0)
     first_is None t = refl
     first_is (Some s) t = holder_is tables t s line
 
@@ -315,4 +316,4 @@ module _ (net : NetworkPlan) (tables : Tables) (network : IsNetwork net) (are : 
 
 pub railway_of_tables : (net : NetworkPlan) (tables : Tables) → IsNetwork net → IsLine tables → AreTablesOf net tables → IsRailway net (line_of tables)
 railway_of_tables net tables network line are =
-    record { network = network; line_of = line_of_network net tables network are; consistent = consistent_line tables line }
+    record { network = network; line_is = line_of_network net tables network are; consistent = consistent_line tables line }

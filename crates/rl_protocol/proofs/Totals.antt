@@ -1,5 +1,6 @@
 -- All that the steps of a run weigh is at most what the attempts posted can weigh.
-use Rattle.std.proofs.Common.{◌≡◌, ℕ, zero, suc, ◌+◌, ◌-◌, ◌*◌, ◌<◌, ◌≤◌, cond, List, [], ◌∷◌, length, length-append, Option, Some, None, refl, ap, ◌∙◌, inl, inr, ◌⊎◌, ⊎_elim, arith}
+use Rattle.std.proofs.Common.{◌≡◌, ℕ, zero, suc, ◌+◌, ◌-◌, ◌*◌, ◌<◌, ◌≤◌, cond, List, [], ◌∷◌, length, length-append, Option, Some, None, refl, ap, ◌∙◌, inl}
+use Rattle.std.proofs.Common.{inr, ◌⊎◌, ⊎_elim, arith}
 use Rattle.std.specs.Prelude.{option_to_list}
 use Rattle.std.proofs.lemmas.Bool.{cases_eq, cases_lt, eq-eqb}
 use Rattle.std.proofs.lemmas.List.Sums.{sum_by-cons}
@@ -13,10 +14,10 @@ use Rattle.rl_model.specs.declared.moves.Move.{Move}
 use Rattle.rl_words.specs.declared.mail.Letter.{Letter}
 use Rattle.rl_protocol.specs.Line.{Line, IsConsistent}
 use Rattle.rl_protocol.specs.State.{State}
-use Rattle.rl_protocol.specs.Steps.{Step, Fits, next}
+use Rattle.rl_protocol.specs.Steps.{Step, StepFits, next}
 use Rattle.rl_protocol.specs.StepMoves.{move_of, refusal_of}
 use Rattle.rl_protocol.specs.Nodes.{node_of}
-use Rattle.rl_protocol.specs.Runs.{state_after, IsRun, moves_of}
+use Rattle.rl_protocol.specs.Runs.{state_after, IsStepRun, moves_of}
 use Rattle.rl_protocol.specs.Agreement.{Agrees}
 use Rattle.rl_protocol.specs.Counts.{same_node, events_of, attempts_posted}
 use Rattle.rl_protocol.proofs.Known.{Known}
@@ -45,7 +46,7 @@ step_total full before left left2 rank1 rank2 tries d h (inr e) = let same : ful
     more : (m n : ℕ) → m * (n + 1) ≡ m * n + m
     more m n = omega arith
 
-weighed_is : (w : Weights) (line : Line) (tries : ℕ) (steps : List Step) (t : ℕ) → IsConsistent line → IsRun line tries steps
+weighed_is : (w : Weights) (line : Line) (tries : ℕ) (steps : List Step) (t : ℕ) → IsConsistent line → IsStepRun line tries steps
     → let s = state_after line tries steps in
     weighed w t steps + attempt_weight w + attempt_weight w * (s.trains t).left ≤ rank w s t + attempt_weight w * tries
 weighed_is w line tries [] t laws run = let at_start = rank_starts w line tries t in omega arith
@@ -69,7 +70,7 @@ weighed_most full w left rank1 tries h most within =
     distribute : (m n k : ℕ) → m * (n + k) ≡ m * n + m * k
     distribute m n k = omega arith
 
-train_weighs : (w : Weights) (line : Line) (tries : ℕ) (steps : List Step) (t : ℕ) → IsConsistent line → IsRun line tries steps
+train_weighs : (w : Weights) (line : Line) (tries : ℕ) (steps : List Step) (t : ℕ) → IsConsistent line → IsStepRun line tries steps
     → weighed w t steps ≤ attempt_weight w * (tries - ((state_after line tries steps).trains t).left)
 train_weighs w line tries steps t laws run =
     let s = state_after line tries steps in
@@ -83,7 +84,7 @@ abbrev weighed_below : Weights → ℕ → List Step → ℕ
 weighed_below w zero steps = 0
 weighed_below w (suc t) steps = weighed w t steps + weighed_below w t steps
 
-below_weigh : (w : Weights) (line : Line) (tries : ℕ) (steps : List Step) (n : ℕ) → IsConsistent line → IsRun line tries steps
+below_weigh : (w : Weights) (line : Line) (tries : ℕ) (steps : List Step) (n : ℕ) → IsConsistent line → IsStepRun line tries steps
     → weighed_below w n steps ≤ attempt_weight w * attempts_posted tries (state_after line tries steps) n
 below_weigh w line tries steps zero laws run = omega arith
 below_weigh w line tries steps (suc t) laws run =
@@ -97,7 +98,7 @@ below_weigh w line tries steps (suc t) laws run =
     distribute m n k = omega arith
 
 -- each step is about a train that is under way
-pub about_within : (line : Line) (tries : ℕ) (s : State) (step : Step) → Agrees line tries s → Fits line s step → Known line s step
+pub about_within : (line : Line) (tries : ℕ) (s : State) (step : Step) → Agrees line tries s → StepFits line s step → Known line s step
     → line.steps (about step) ≡ 0 → ⊥
 about_within line tries s step agrees fits known none =
     let attempts = agrees.attempts (about step) in
@@ -124,7 +125,7 @@ more_below w zero step steps = refl
 more_below w (suc t) step steps = let before = more_below w t step steps in omega arith
 
 total_below : (w : Weights) (line : Line) (tries : ℕ) (steps : List Step) (n : ℕ) → IsConsistent line → ((t : ℕ) → n ≤ t → line.steps t ≡ 0)
-    → IsRun line tries steps → total w steps ≤ weighed_below w n steps
+    → IsStepRun line tries steps → total w steps ≤ weighed_below w n steps
 total_below w line tries [] n laws others run = omega arith
 total_below w line tries (step ∷ steps) n laws others run =
     let s = state_after line tries steps in
@@ -136,7 +137,7 @@ total_below w line tries (step ∷ steps) n laws others run =
 
 -- so all steps weigh at most what the attempts posted can
 pub total_most : (w : Weights) (line : Line) (tries : ℕ) (steps : List Step) (n : ℕ) → IsConsistent line → ((t : ℕ) → n ≤ t → line.steps t ≡ 0)
-    → IsRun line tries steps → total w steps ≤ attempt_weight w * attempts_posted tries (state_after line tries steps) n
+    → IsStepRun line tries steps → total w steps ≤ attempt_weight w * attempts_posted tries (state_after line tries steps) n
 total_most w line tries steps n laws others run = omega (arith, total_below w line tries steps n laws others run, below_weigh w line tries steps n laws run)
 
 -- every step, those of a kind of node, and those with a move
@@ -335,13 +336,13 @@ count_moves line (step ∷ steps) =
 times : (m n p : ℕ) → m ≤ n → m * p ≤ n * p
 times m n p h = grind arith
 
-pub events_most : (line : Line) (tries : ℕ) (steps : List Step) (n : ℕ) → IsConsistent line → ((t : ℕ) → n ≤ t → line.steps t ≡ 0) → IsRun line tries steps
+pub events_most : (line : Line) (tries : ℕ) (steps : List Step) (n : ℕ) → IsConsistent line → ((t : ℕ) → n ≤ t → line.steps t ≡ 0) → IsStepRun line tries steps
     → length steps ≤ 39 * attempts_posted tries (state_after line tries steps) n
 unfolding each_step
 events_most line tries steps n laws others run = omega (arith, count_all steps, total_most each_step line tries steps n laws others run)
 
 pub node_events_most : (node : NodeKind) (line : Line) (tries : ℕ) (steps : List Step) (n : ℕ) → IsConsistent line → ((t : ℕ) → n ≤ t → line.steps t ≡ 0)
-    → IsRun line tries steps → events_of node steps ≤ 19 * attempts_posted tries (state_after line tries steps) n
+    → IsStepRun line tries steps → events_of node steps ≤ 19 * attempts_posted tries (state_after line tries steps) n
 node_events_most node line tries steps n laws others run =
     omega (
       arith,
@@ -351,7 +352,7 @@ node_events_most node line tries steps n laws others run =
           (attempts_posted tries (state_after line tries steps) n) (node_most node),
     )
 
-pub moves_most : (line : Line) (tries : ℕ) (steps : List Step) (n : ℕ) → IsConsistent line → ((t : ℕ) → n ≤ t → line.steps t ≡ 0) → IsRun line tries steps
+pub moves_most : (line : Line) (tries : ℕ) (steps : List Step) (n : ℕ) → IsConsistent line → ((t : ℕ) → n ≤ t → line.steps t ≡ 0) → IsStepRun line tries steps
     → length (moves_of line steps) ≤ 10 * attempts_posted tries (state_after line tries steps) n
 unfolding with_move
 moves_most line tries steps n laws others run = omega (arith, count_moves line steps, total_most with_move line tries steps n laws others run)

@@ -1,5 +1,6 @@
 -- Agreement: how the minds and the words of a state belong together, in six parts.
-use Rattle.std.specs.Prelude.{◌≡◌, ◌≢◌, ℕ, ◌+◌, ◌<◌, ◌≤◌, ◌==◌, ◌⊎◌, Bool, true, false, not, ◌&&◌, ◌||◌, if◌then◌else◌, Option, Some, None}
+use Rattle.std.specs.Prelude.{◌≡◌, ◌≢◌, ℕ, ◌+◌, ◌<◌, ◌≤◌, ◌==◌, ◌⊎◌, Bool, true, false, not, ◌&&◌, ◌||◌, if◌then◌else◌}
+use Rattle.std.specs.Prelude.{Option, Some, None}
 use Rattle.rl_base.specs.declared.ids.TrainId.{TrainId}
 use Rattle.rl_base.specs.declared.job.Verb.{Verb}
 use Rattle.rl_base.specs.declared.job.Verb.TheVariants as verbs
@@ -24,7 +25,7 @@ use Rattle.rl_track.specs.declared.track.TrackMind.{TrackMind}
 use Rattle.rl_track.specs.declared.track.TrackPhase.TheVariants.{Watch, HeadDue, LeaveDue, TailDue}
 use Rattle.rl_track.specs.Track.{track_at}
 use Rattle.rl_protocol.specs.Line.{Line, is_held_by}
-use Rattle.rl_protocol.specs.Jobs.{passes, begins, has_passed, is_open}
+use Rattle.rl_train.specs.Jobs.{is_pass, is_near, has_passed, is_open}
 use Rattle.rl_protocol.specs.State.{State}
 use Rattle.rl_protocol.specs.Minds.{train, letter_of, letter_of_path}
 use Rattle.rl_protocol.specs.Held.{holds, has_lock}
@@ -85,7 +86,7 @@ HasLetter line s t l = letter_of line t (s.trains t) ≡ Some l
 
 -- the train waits for the answer to a letter
 abbrev pub asks : TrainMind → Bool
-asks m = m.waits && not (passes m.job)
+asks m = m.waits && not (is_pass m.job)
 
 -- the letter of train t is taken, by box b
 abbrev pub IsTakenBy : State → (b t : ℕ) → Letter → Type 0
@@ -151,7 +152,7 @@ abbrev pub IsStanding : State → (t k : ℕ) → Type 0
 IsStanding s t k = IsAt s t (Clear k) (Quiet k) (track_at k Watch)
 
 abbrev pub is_passing : TrainMind → Bool
-is_passing m = m.waits && passes m.job
+is_passing m = m.waits && is_pass m.job
 
 -- the place of its route at which a train stands that isn't passing its box
 abbrev pub place_of : TrainMind → ℕ
@@ -164,7 +165,7 @@ pub record AgreesOnPassage (s : State) (t : ℕ) : Type 0 where
 
 -- a train is under way unless it is between two steps
 abbrev pub is_under_way : TrainMind → Bool
-is_under_way m = m.waits || not (begins m.job)
+is_under_way m = m.waits || not (is_near m.job)
 
 -- 1 for an attempt that is neither a step made nor a refusal met yet
 abbrev pub open_attempts : TrainMind → ℕ

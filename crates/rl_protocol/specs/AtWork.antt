@@ -10,13 +10,13 @@ use Rattle.rl_box.specs.declared.mind.Work.TheVariants.{Ready, Serve, Say}
 use Rattle.rl_protocol.specs.Line.{Line}
 use Rattle.rl_protocol.specs.State.{State}
 use Rattle.rl_protocol.specs.Minds.{box}
-use Rattle.rl_protocol.specs.Steps.{Step, Fits}
+use Rattle.rl_protocol.specs.Steps.{Step, StepFits}
 use Rattle.rl_protocol.specs.Nodes.{node_of, word_of}
 
 -- the node can make a step on the word
 pub record HasStep (line : Line) (s : State) (node : NodeKind) (word : WordKind) : Type 0 where
   pub step : Step
-  pub fits : Fits line s step
+  pub fits : StepFits line s step
   pub by_node : node_of step ≡ node
   pub on_word : word_of step ≡ word
 

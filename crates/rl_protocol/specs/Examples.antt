@@ -8,7 +8,8 @@ use Rattle.rl_drafts.specs.Examples.{switch_box}
 use Rattle.rl_tables.specs.Examples.{arm, one_train_tables}
 use Rattle.rl_protocol.specs.Line.{Line}
 use Rattle.rl_protocol.specs.TableLine.{line_of}
-use Rattle.rl_protocol.specs.Steps.{Step, post, hear_yes, go, quiet, take, grant, release, lock_now, unlock, say_yes, enter, head, leave, tail}
+use Rattle.rl_protocol.specs.Steps.{Step, post, hear_yes, go, quiet, take, grant, release, lock_now, unlock, say_yes}
+use Rattle.rl_protocol.specs.Steps.{enter, head, leave, tail}
 
 -- what the boxes W, J1 and E and the one train know, by their tables
 abbrev pub one_train_line : Line

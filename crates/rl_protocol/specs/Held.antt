@@ -11,8 +11,8 @@ use Rattle.rl_box.specs.declared.mind.Answer.TheVariants as answers
 use Rattle.rl_box.specs.declared.mind.BoxMind.{BoxMind}
 use Rattle.rl_box.specs.declared.mind.Work.{Work}
 use Rattle.rl_box.specs.declared.mind.Work.TheVariants.{Ready, Serve, Say}
-use Rattle.rl_protocol.specs.Line.{Line, at}
-use Rattle.rl_protocol.specs.Jobs.{holds_at, locks_at}
+use Rattle.rl_protocol.specs.Line.{Line}
+use Rattle.rl_train.specs.Jobs.{at, holds_at, locks_at}
 use Rattle.rl_protocol.specs.State.{State}
 use Rattle.rl_protocol.specs.Minds.{row_of}
 

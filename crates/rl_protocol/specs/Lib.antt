@@ -1,5 +1,4 @@
 pub mod Line
-pub mod Jobs
 pub mod State
 pub mod Minds
 pub mod Steps

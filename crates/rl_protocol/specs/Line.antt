@@ -1,14 +1,13 @@
 -- The line as the protocol sees it: what each box and each train knows, and that these parts fit each other.
-use Rattle.std.specs.Prelude.{◌≡◌, ◌≢◌, ℕ, ◌+◌, ◌<◌, ◌==◌, Bool, true, false, ◌&&◌, ◌||◌, Option, Some, None}
+use Rattle.std.specs.Prelude.{◌≡◌, ◌≢◌, ℕ, ◌+◌, ◌<◌, ◌==◌, Bool, true, false, ◌||◌, Option, Some, None}
 use Rattle.std.specs.Option.{option_map_or}
 use Rattle.rl_base.specs.declared.ids.SegId.{SegId}
-use Rattle.rl_base.specs.declared.ids.BoxId.{BoxId}
 use Rattle.rl_base.specs.declared.ids.TrainId.{TrainId}
-use Rattle.rl_base.specs.declared.ids.Arm.{Arm}
 use Rattle.rl_base.specs.declared.kind.Kind.{Kind}
 use Rattle.rl_base.specs.declared.kind.Side.{Side}
 use Rattle.rl_tables.specs.declared.table.StepRow.{StepRow}
 use Rattle.rl_tables.specs.Kept.{can_join}
+use Rattle.rl_train.specs.Jobs.{at}
 
 -- what boxes and trains know. Boxes, arms, trains and steps are given by their numbers; a place is an arm of a box
 pub record Line : Type 0 where
@@ -29,10 +28,6 @@ is_number o n = option_map_or (λ m. m == n) o false
 abbrev pub same_number : Option ℕ → Option ℕ → Bool
 same_number None p = false
 same_number (Some n) p = is_number p n
-
--- box b and arm x are this place
-abbrev pub at : BoxId → Arm → ℕ → ℕ → Bool
-at box arm b x = box.0 == b && arm.0 == x
 
 -- the train holds what this holder holds
 abbrev pub is_held_by : ℕ → Option TrainId → Bool

@@ -1,5 +1,5 @@
 -- Minds in a step: the letter of a train and its mind after an answer, and a box that serves.
-use Rattle.std.specs.Prelude.{ℕ, ◌+◌, ◌-◌, ◌==◌, Bool, true, false, not, ◌&&◌, ◌||◌, if◌then◌else◌, Option, None}
+use Rattle.std.specs.Prelude.{ℕ, ◌==◌, Bool, false, not, ◌&&◌, ◌||◌, Option, None}
 use Rattle.rl_base.specs.declared.ids.BoxId.{BoxId}
 use Rattle.rl_base.specs.declared.ids.TrainId.{TrainId}
 use Rattle.rl_base.specs.declared.job.Verb.TheVariants as verbs
@@ -12,7 +12,8 @@ use Rattle.rl_box.specs.declared.mind.BoxMind.{BoxMind}
 use Rattle.rl_box.specs.declared.mind.Work.TheVariants.{Serve}
 use Rattle.rl_box.specs.Mind.{box_at}
 use Rattle.rl_protocol.specs.Line.{Line}
-use Rattle.rl_protocol.specs.Jobs.{letter_at, job_after_yes, begins, finishes}
+use Rattle.rl_train.specs.Jobs.{letter, after_yes, is_near}
+use Rattle.rl_train.specs.Steps as trains
 
 -- the train, and the box, of a number
 abbrev pub train : ℕ → TrainId
@@ -30,27 +31,19 @@ abbrev pub row_of : Line → ℕ → TrainMind → StepRow
 row_of line t m = line.row t m.step
 
 abbrev pub letter_of : Line → ℕ → TrainMind → Option Letter
-letter_of line t m = letter_at m.job (row_of line t m)
+letter_of line t m = letter (row_of line t m) m.job
 
 -- a train rests where it is about to begin an attempt, and its route or its attempts are at their end
 abbrev pub at_rest : Line → ℕ → TrainMind → Bool
-at_rest line t m = not m.waits && begins m.job && (m.step == line.steps t || m.left == 0)
+at_rest line t m = not m.waits && is_near m.job && (m.step == line.steps t || m.left == 0)
 
--- the mind after the letter of its job is posted, and after the answer Yes
-abbrev pub posted : TrainMind → TrainMind
-posted m = record m { waits = true; left = if begins m.job then m.left - 1 else m.left }
-
+-- the mind after the answer Yes, at the row of its step
 abbrev pub heard : Line → ℕ → TrainMind → TrainMind
-heard line t m =
-    record m {
-      waits = false;
-      job = job_after_yes (row_of line t m) m.job;
-      step = if finishes m.job then m.step + 1 else m.step;
-    }
+heard line t m = trains.heard (row_of line t m) m
 
 -- and after the passage
 abbrev pub passed : Line → ℕ → TrainMind → TrainMind
-passed line t m = record m { waits = false; job = job_after_yes (row_of line t m) m.job }
+passed line t m = record m { waits = false; job = after_yes (row_of line t m) m.job }
 
 -- the arms that the letter names are arms of its box
 abbrev pub names_arms : Line → Letter → Bool

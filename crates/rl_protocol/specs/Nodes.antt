@@ -4,7 +4,9 @@ use Rattle.rl_base.specs.declared.layout.NodeKind.TheVariants as nodes
 use Rattle.rl_base.specs.declared.layout.WordKind.{WordKind}
 use Rattle.rl_base.specs.declared.layout.WordKind.TheVariants as words
 use Rattle.rl_protocol.specs.Minds.{train, box}
-use Rattle.rl_protocol.specs.Steps.{Step, post, hear_yes, hear_no, go, quiet, take, grant, refuse, release, lock_now, lock_ask, lock_moved, unlock, say_yes, say_no, busy, throw, settle, enter, head, leave, tail}
+use Rattle.rl_protocol.specs.Steps.{Step, post, hear_yes, hear_no, go, quiet, take, grant, refuse, release, lock_now}
+use Rattle.rl_protocol.specs.Steps.{lock_ask, lock_moved, unlock, say_yes, say_no, busy, throw, settle, enter, head}
+use Rattle.rl_protocol.specs.Steps.{leave, tail}
 
 -- the node that makes each step, and the word that the step changes
 abbrev pub node_of : Step → NodeKind

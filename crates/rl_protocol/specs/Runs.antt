@@ -3,7 +3,7 @@ use Rattle.std.specs.Prelude.{ℕ, List, [], ◌∷◌, ◌++◌, option_to_list
 use Rattle.rl_model.specs.declared.moves.Move.{Move}
 use Rattle.rl_protocol.specs.Line.{Line}
 use Rattle.rl_protocol.specs.State.{State, start}
-use Rattle.rl_protocol.specs.Steps.{Step, Fits, next}
+use Rattle.rl_protocol.specs.Steps.{Step, StepFits, next}
 use Rattle.rl_protocol.specs.StepMoves.{move_of}
 
 -- the state that the steps leave. A list of steps has the newest first
@@ -12,9 +12,9 @@ state_after line tries [] = start line tries
 state_after line tries (step ∷ steps) = next line (state_after line tries steps) step
 
 -- every step fits the state that those before it leave
-abbrev pub IsRun : Line → ℕ → List Step → Type 0
-IsRun line tries [] = Unit {0}
-IsRun line tries (step ∷ steps) = IsRun line tries steps × Fits line (state_after line tries steps) step
+abbrev pub IsStepRun : Line → ℕ → List Step → Type 0
+IsStepRun line tries [] = Unit {0}
+IsStepRun line tries (step ∷ steps) = IsStepRun line tries steps × StepFits line (state_after line tries steps) step
 
 -- the moves of the steps, the oldest first
 abbrev pub moves_of : Line → List Step → List Move

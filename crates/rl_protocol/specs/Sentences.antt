@@ -13,7 +13,7 @@ use Rattle.rl_box.specs.Steps.{BoxStep}
 use Rattle.rl_track.specs.declared.track.TrackMind.{TrackMind}
 use Rattle.rl_protocol.specs.Line.{Line}
 use Rattle.rl_protocol.specs.State.{State, put}
-use Rattle.rl_protocol.specs.Steps.{Step, Fits, next}
+use Rattle.rl_protocol.specs.Steps.{Step, StepFits, next}
 use Rattle.rl_protocol.specs.Nodes.{node_of, word_of}
 
 -- who holds arm x by a reservation word, which has four arms
@@ -21,12 +21,12 @@ abbrev pub holder_in : ResvWord → ℕ → Option TrainId
 holder_in w x = if nat_lt x 4 then arm_in w x else None
 
 -- the word says this in the state
-abbrev pub HasWord : State → Word → Type 0
-HasWord s (Resv b v) = (x : ℕ) → s.resv b.0 x ≡ holder_in v x
-HasWord s (Lock b v) = s.lock b.0 ≡ v
-HasWord s (Mail t v) = s.mail t.0 ≡ v
-HasWord s (Run t v) = s.run t.0 ≡ v
-HasWord s (Sense t v) = s.sense t.0 ≡ v
+abbrev pub StateSays : State → Word → Type 0
+StateSays s (Resv b v) = (x : ℕ) → s.resv b.0 x ≡ holder_in v x
+StateSays s (Lock b v) = s.lock b.0 ≡ v
+StateSays s (Mail t v) = s.mail t.0 ≡ v
+StateSays s (Run t v) = s.run t.0 ≡ v
+StateSays s (Sense t v) = s.sense t.0 ≡ v
 
 -- the state with a word that says this
 abbrev pub with_word : State → Word → State
@@ -47,9 +47,9 @@ abbrev pub with_box : State → ℕ → BoxMind → State
 with_box s b mind = record s { boxes = put s.boxes b mind }
 
 -- the node makes a step that leaves this state, in which its word is the one that changed
-pub record Makes (line : Line) (s : State) (node : NodeKind) (word : Word) (after : State) : Type 0 where
+pub record MakesStep (line : Line) (s : State) (node : NodeKind) (word : Word) (after : State) : Type 0 where
   pub step : Step
-  pub fits : Fits line s step
+  pub fits : StepFits line s step
   pub by_node : node_of step ≡ node
   pub on_word : word_of step ≡ kind_of word
   pub leaves : next line s step ≡ with_word after word

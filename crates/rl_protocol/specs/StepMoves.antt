@@ -11,7 +11,8 @@ use Rattle.rl_model.specs.declared.moves.Move.{Move}
 use Rattle.rl_model.specs.declared.moves.Move.TheVariants as moves
 use Rattle.rl_protocol.specs.Line.{Line}
 use Rattle.rl_protocol.specs.Minds.{train, box}
-use Rattle.rl_protocol.specs.Steps.{Step, grant, release, lock_now, lock_ask, unlock, say_no, throw, settle, enter, leave}
+use Rattle.rl_protocol.specs.Steps.{Step, grant, release, lock_now, lock_ask, unlock, say_no, throw, settle, enter}
+use Rattle.rl_protocol.specs.Steps.{leave}
 
 -- the segment at an arm of a box
 abbrev pub seg_at : Line → ℕ → Arm → SegId

@@ -18,14 +18,15 @@ use Rattle.rl_box.specs.declared.mind.Work.{Work}
 use Rattle.rl_box.specs.declared.mind.BoxMind.{BoxMind}
 use Rattle.rl_box.specs.declared.mind.Work.TheVariants.{Ready, Serve, Say}
 use Rattle.rl_track.specs.declared.track.TrackPhase.TheVariants.{Watch, HeadDue, LeaveDue, TailDue}
-use Rattle.rl_train.specs.Steps.{denied}
+use Rattle.rl_train.specs.Steps.{posted, denied}
 use Rattle.rl_box.specs.Mind.{box_at}
 use Rattle.rl_box.specs.Steps.{path_of, other_side}
 use Rattle.rl_track.specs.Track.{track_at}
 use Rattle.rl_protocol.specs.Line.{Line}
-use Rattle.rl_protocol.specs.Jobs.{job_after_no, passes}
+use Rattle.rl_train.specs.Jobs.{after_no, is_pass}
 use Rattle.rl_protocol.specs.State.{State, put, put_at}
-use Rattle.rl_protocol.specs.Minds.{train, letter_of_path, row_of, letter_of, at_rest, posted, heard, passed, names_arms, serving}
+use Rattle.rl_protocol.specs.Minds.{train, letter_of_path, row_of, letter_of, at_rest, heard, passed, names_arms}
+use Rattle.rl_protocol.specs.Minds.{serving}
 
 -- t is a train and b a box by its number, l the letter of train t, u the train in the way, p a path, and k a step of
 -- the route of train t
@@ -54,51 +55,51 @@ pub data Step : Type 0 where
   tail : (t k : ℕ) → Step
 
 -- the mind and the word of each step, as the step finds them
-abbrev pub Fits : Line → State → Step → Type 0
-Fits line s (post t l) =
+abbrev pub StepFits : Line → State → Step → Type 0
+StepFits line s (post t l) =
     ((s.trains t).waits ≡ false) × (at_rest line t (s.trains t) ≡ false)
     × (letter_of line t (s.trains t) ≡ Some l) × (s.mail t ≡ Empty)
-Fits line s (hear_yes t l) =
+StepFits line s (hear_yes t l) =
     ((s.trains t).waits ≡ true) × (letter_of line t (s.trains t) ≡ Some l) × (s.mail t ≡ Yes l)
-Fits line s (hear_no t l u job) =
+StepFits line s (hear_no t l u job) =
     ((s.trains t).waits ≡ true) × (letter_of line t (s.trains t) ≡ Some l) × (s.mail t ≡ No l u)
-    × (job_after_no (row_of line t (s.trains t)) (s.trains t).job ≡ Some job)
-Fits line s (go t) =
-    ((s.trains t).waits ≡ false) × (passes (s.trains t).job ≡ true) × (s.run t ≡ Clear (s.trains t).step)
-Fits line s (quiet t) =
-    ((s.trains t).waits ≡ true) × (passes (s.trains t).job ≡ true) × (s.sense t ≡ Tail (s.trains t).step)
-Fits line s (take b t l) =
+    × (after_no (row_of line t (s.trains t)) (s.trains t).job ≡ Some job)
+StepFits line s (go t) =
+    ((s.trains t).waits ≡ false) × (is_pass (s.trains t).job ≡ true) × (s.run t ≡ Clear (s.trains t).step)
+StepFits line s (quiet t) =
+    ((s.trains t).waits ≡ true) × (is_pass (s.trains t).job ≡ true) × (s.sense t ≡ Tail (s.trains t).step)
+StepFits line s (take b t l) =
     ((s.boxes b).work ≡ Ready) × (s.mail t ≡ Ask l) × (l.to.0 ≡ b) × (names_arms line l ≡ true)
-Fits line s (grant b t l) =
+StepFits line s (grant b t l) =
     ((s.boxes b).work ≡ Serve (train t) l) × (l.verb ≡ verbs.Reserve) × (s.resv b l.x.0 ≡ None)
-Fits line s (refuse b t l u) =
+StepFits line s (refuse b t l u) =
     ((s.boxes b).work ≡ Serve (train t) l) × (l.verb ≡ verbs.Reserve) × (s.resv b l.x.0 ≡ Some u) × (u.0 ≢ t)
-Fits line s (release b t l) =
+StepFits line s (release b t l) =
     ((s.boxes b).work ≡ Serve (train t) l) × (l.verb ≡ verbs.Release) × (s.resv b l.x.0 ≡ Some (train t))
-Fits line s (lock_now b t l side) =
+StepFits line s (lock_now b t l side) =
     (s.boxes b ≡ serving t l) × (l.verb ≡ verbs.Lock) × (s.lock b ≡ Free side)
     × (arms_join (line.kind b) l.x.0 l.y.0 side ≡ true)
-Fits line s (lock_ask b t l side) =
+StepFits line s (lock_ask b t l side) =
     (s.boxes b ≡ serving t l) × (l.verb ≡ verbs.Lock) × (s.lock b ≡ Free side)
     × (arms_join (line.kind b) l.x.0 l.y.0 side ≡ false)
     × (arms_join (line.kind b) l.x.0 l.y.0 (other_side side) ≡ true)
-Fits line s (lock_moved b p) =
+StepFits line s (lock_moved b p) =
     (s.boxes b ≡ box_at Ready (Some p)) × (s.lock b ≡ Moved p)
-Fits line s (unlock b t l side) =
+StepFits line s (unlock b t l side) =
     (s.boxes b ≡ serving t l) × (l.verb ≡ verbs.Unlock) × (s.lock b ≡ Locked (path_of (train t) l))
     × (joining_side (line.kind b) l.x.0 l.y.0 ≡ Some side)
-Fits line s (say_yes b t l) =
+StepFits line s (say_yes b t l) =
     ((s.boxes b).work ≡ Say (train t) l answers.Yes) × (s.mail t ≡ Taken l)
-Fits line s (say_no b t l u) =
+StepFits line s (say_no b t l u) =
     ((s.boxes b).work ≡ Say (train t) l (answers.No u)) × IsRefusable l.verb × (s.mail t ≡ Taken l)
-Fits line s (busy b t l p) =
+StepFits line s (busy b t l p) =
     (s.boxes b ≡ serving t l) × (l.verb ≡ verbs.Lock) × (s.lock b ≡ Locked p) × (p.train.0 ≢ t)
-Fits line s (throw b p) = s.lock b ≡ Asked p
-Fits line s (settle b p) = s.lock b ≡ Moving p
-Fits line s (enter t k) = (s.tracks t ≡ track_at k Watch) × (s.run t ≡ Go k)
-Fits line s (head t k) = (s.tracks t ≡ track_at k HeadDue) × (s.sense t ≡ Quiet k)
-Fits line s (leave t k) = (s.tracks t ≡ track_at k LeaveDue) × (s.run t ≡ Across k)
-Fits line s (tail t k) = (s.tracks t ≡ track_at k TailDue) × (s.sense t ≡ Head k)
+StepFits line s (throw b p) = s.lock b ≡ Asked p
+StepFits line s (settle b p) = s.lock b ≡ Moving p
+StepFits line s (enter t k) = (s.tracks t ≡ track_at k Watch) × (s.run t ≡ Go k)
+StepFits line s (head t k) = (s.tracks t ≡ track_at k HeadDue) × (s.sense t ≡ Quiet k)
+StepFits line s (leave t k) = (s.tracks t ≡ track_at k LeaveDue) × (s.run t ≡ Across k)
+StepFits line s (tail t k) = (s.tracks t ≡ track_at k TailDue) × (s.sense t ≡ Head k)
 
 -- the box's mind with another work, and what it is once it has an answer to say
 abbrev pub with_work : State → ℕ → Work → ℕ → BoxMind

@@ -1,5 +1,6 @@
 -- The line that tables say.
-use Rattle.std.specs.Prelude.{ℕ, zero, suc, length, slice_get, Option, Some, is_some, option_map, option_and_then, unwrap_or}
+use Rattle.std.specs.Prelude.{ℕ, zero, suc, length, slice_get, Option, Some, is_some, option_map, option_and_then}
+use Rattle.std.specs.Prelude.{unwrap_or}
 use Rattle.std.specs.Option.{option_map_or}
 use Rattle.rl_base.specs.declared.kind.Side.TheVariants.{Left}
 use Rattle.rl_tables.specs.declared.table.BoxTable.{BoxTable}
@@ -7,7 +8,7 @@ use Rattle.rl_tables.specs.declared.table.StepRow.{StepRow}
 use Rattle.rl_tables.specs.declared.table.TrainTable.{TrainTable}
 use Rattle.rl_tables.specs.declared.table.Tables.{Tables}
 use Rattle.rl_tables.specs.Kept.{line_kind, line_segment}
-use Rattle.rl_tables.specs.Starts.{holder_of}
+use Rattle.rl_tables.specs.Starts.{starter_of}
 use Rattle.rl_drafts.specs.Examples.{seg, switch_box}
 use Rattle.rl_tables.specs.Examples.{arm}
 use Rattle.rl_protocol.specs.Line.{Line, same_number}
@@ -21,8 +22,8 @@ abbrev pub route_of : Tables → (t k : ℕ) → Option ℕ
 route_of tables t k = option_and_then (λ (x : TrainTable). segment_of_route x k) (slice_get tables.trains t)
 
 -- the row of step k of train t
-abbrev pub row_in : Tables → (t k : ℕ) → Option StepRow
-row_in tables t k = option_and_then (λ (x : TrainTable). slice_get x.rows k) (slice_get tables.trains t)
+abbrev pub row_at : Tables → (t k : ℕ) → Option StepRow
+row_at tables t k = option_and_then (λ (x : TrainTable). slice_get x.rows k) (slice_get tables.trains t)
 
 -- what stands for a row that isn't there
 abbrev pub no_row : StepRow
@@ -46,8 +47,8 @@ line_of tables =
       side = λ b. option_map_or (λ (x : BoxTable). x.side) (slice_get tables.boxes b) Left;
       has_arm = λ b x. is_some (line_segment tables b x);
       segment = λ b x. seg (unwrap_or (line_segment tables b x) 0);
-      first_holder = λ b x. option_and_then (holder_of tables) (line_segment tables b x);
+      first_holder = λ b x. option_and_then (starter_of tables) (line_segment tables b x);
       steps = λ t. option_map_or (λ (x : TrainTable). length x.rows) (slice_get tables.trains t) 0;
-      row = λ t k. unwrap_or (row_in tables t k) no_row;
+      row = λ t k. unwrap_or (row_at tables t k) no_row;
       ends = λ t k b x. same_number (line_segment tables b x) (route_of tables t k);
     }

@@ -1,5 +1,6 @@
 -- The world of a state: what the words say of trains, segments and boxes of a network.
-use Rattle.std.specs.Prelude.{◌≡◌, ℕ, ◌+◌, ◌<◌, ◌==◌, Bool, false, ◌&&◌, ◌||◌, if◌then◌else◌, Option, Some, None, unwrap_or}
+use Rattle.std.specs.Prelude.{◌≡◌, ℕ, ◌+◌, ◌<◌, ◌==◌, Bool, false, ◌&&◌, ◌||◌, if◌then◌else◌, Option, Some, None}
+use Rattle.std.specs.Prelude.{unwrap_or}
 use Rattle.std.specs.Option.{option_map_or}
 use Rattle.rl_base.specs.declared.kind.Kind.{Kind}
 use Rattle.rl_base.specs.declared.kind.Kind.TheVariants.{Buffer, Joint, Point, Crossing}
@@ -9,7 +10,8 @@ use Rattle.rl_base.specs.Kind.{joining_side}
 use Rattle.rl_model.specs.declared.moves.Points.{Points}
 use Rattle.rl_model.specs.declared.moves.Points.TheVariants as points
 use Rattle.rl_model.specs.declared.network.NetworkPlan.{NetworkPlan}
-use Rattle.rl_model.specs.Network.{kind_of, start_side, segment_at, arm_of, steps_of, route_segment, route_box, IsStep, IsNetwork}
+use Rattle.rl_model.specs.Network.{kind_of, start_side, segment_at, arm_of, steps_of, route_segment, route_box, IsStep}
+use Rattle.rl_model.specs.Network.{IsNetwork}
 use Rattle.rl_model.specs.World.{World, points_at}
 use Rattle.rl_words.specs.declared.lock.LockWord.{LockWord}
 use Rattle.rl_words.specs.declared.lock.LockWord.TheVariants.{Free, Asked, Moving, Moved, Locked}
@@ -32,7 +34,7 @@ pub record IsLineOf (net : NetworkPlan) (line : Line) : Type 0 where
 -- a network, and a consistent line of it
 pub record IsRailway (net : NetworkPlan) (line : Line) : Type 0 where
   pub network : IsNetwork net
-  pub line_of : IsLineOf net line
+  pub line_is : IsLineOf net line
   pub consistent : IsConsistent line
 
 -- a train whose route has these segments occupies the one that its run word names, and the next one too while it is

@@ -1,5 +1,6 @@
 -- What contracts see of a record, and when records have a merge.
-use Rattle.std.specs.Prelude.{◌≡◌, ◌↔◌, ℕ, ◌+◌, ◌-◌, ◌^◌, ◌<◌, ◌≤◌, List, [], ◌∷◌, ◌++◌, All, AllPairs, Contains, flat_map, reverse, slice_get, Some}
+use Rattle.std.specs.Prelude.{◌≡◌, ◌↔◌, ℕ, ◌+◌, ◌-◌, ◌<◌, ◌≤◌, List, [], ◌∷◌, ◌++◌, All, AllPairs, Contains, flat_map, reverse, slice_get, Some}
+use Rattle.rl_base.specs.Numbers.{IsU32}
 use Rattle.rl_record.specs.declared.event.Event.{Event}
 use Rattle.rl_record.specs.Merge.{history, IsMerge}
 
@@ -13,7 +14,7 @@ pub record Record : Type 0 where
 pub record HasRoom (events spare capacity limit : ℕ) : Type 0 where
   pub in_memory : events + spare ≤ capacity
   pub in_limit : events + spare ≤ limit
-  pub limit_fits : limit < 2 ^ 32
+  pub limit_fits : IsU32 limit
 
 -- the record with one more event, for which there was room
 abbrev pub pushed : Record → Event → Record

@@ -1,5 +1,5 @@
 -- A report whose first lines are those that were read has the same moves before it goes on.
-use Rattle.std.proofs.Common.{◌≡◌, ◌≢◌, ℕ, suc, ◌+◌, ◌*◌, ◌<◌, ◌≤◌, ◌^◌, List, [], ◌∷◌, ◌++◌, length, slice_get, slice_index, Some, codes, refl, ap, sym, ◌∙◌, arith}
+use Rattle.std.proofs.Common.{◌≡◌, ◌≢◌, ℕ, suc, ◌+◌, ◌*◌, ◌<◌, ◌≤◌, List, [], ◌∷◌, ◌++◌, length, slice_get, slice_index, Some, codes, refl, ap, sym, ◌∙◌, arith}
 use Rattle.std.proofs.lemmas.Option.{same_Some}
 use Rattle.rl_text.specs.Lines.{Line}
 use Rattle.rl_text.specs.Words.{words_of}
@@ -16,7 +16,7 @@ use Rattle.rl_report.specs.Words.{IsCount, outcome_words}
 use Rattle.rl_report.specs.Grammar.{whole_line}
 use Rattle.rl_report.specs.Reading.{end_line, move_lines, train_lines, next_text, HasNoMove}
 use Rattle.rl_report.proofs.NamedMoves.{named}
-use Rattle.rl_report.proofs.Plain.{plain_outcome}
+use Rattle.rl_report.proofs.Plain.{plain_outcome, small_count}
 use Rattle.rl_report.proofs.Joined.{words_of-joined}
 use Rattle.rl_report.proofs.ReadLines.{words_of_move}
 
@@ -56,15 +56,12 @@ no_end_name name.Leave e = let keys = ap key e in omega arith
 no_end_name name.Refuse e = let keys = ap key e in omega arith
 no_end_name name.Bar e = let keys = ap key e in omega arith
 
-small : (n : ℕ) → n ≤ 1000000 → n < 2 ^ 64
-small n h = omega arith
-
 -- a move's line is no train's
 pub move_or_train : (net : NetworkPlan) (m : Move) (t : ℕ) (o : Outcome) → IsNetwork net → IsCount o.made → IsCount o.refused
     → whole_line (move_words net m) ≢ whole_line (outcome_words net t o)
 move_or_train net m t o network made refused e =
     let is = named net m in
-    let plain = plain_outcome net t o network (small o.made made) (small o.refused refused) in
+    let plain = plain_outcome net t o network (small_count o.made made) (small_count o.refused refused) in
     let same : move_words net m ≡ outcome_words net t o =
     sym (words_of_move net m network) ∙ ap (λ (l : Line). words_of l.text) e ∙ words_of-joined _ _ plain in
     let words = is.words in

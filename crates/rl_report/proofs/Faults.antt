@@ -2,6 +2,8 @@
 use Rattle.std.proofs.Common.{◌≡◌, ℕ, zero, suc, ◌+◌, ◌-◌, ◌<◌, ◌≤◌, List, [], ◌∷◌, ◌++◌, length, drop, flat_map, slice_get, Some, None, codes, decimal, refl, ap, sym, ◌∙◌, subst, append_assoc, length-append, arith}
 use Rattle.std.proofs.lemmas.List.{length-map}
 use Rattle.std.proofs.lemmas.Option.{same_Some}
+use Rattle.rl_base.specs.Tries.{AreFewTries}
+use Rattle.rl_base.specs.declared.limits.TheConstants.{MIN_TRIES}
 use Rattle.rl_text.specs.Lines.{Line, Reading, lines_of, bytes_of}
 use Rattle.rl_text.proofs.LinesLemmas.{flat_map-lines_of}
 use Rattle.rl_model.specs.declared.network.NetworkPlan.{NetworkPlan}
@@ -283,7 +285,7 @@ second [] = refl
 second (l ∷ ls) = refl
 
 pub no_tries_fault : (net : NetworkPlan) (text : List ℕ) → IsNetwork net → slice_get (lines_of text) 0 ≡ Some head_line
-    → ((n : ℕ) → 1 ≤ n → n ≤ 1000 → next_text (drop 1 (lines_of text)) ≡ Some (tries_line n).text → ⊥)
+    → ((n : ℕ) → MIN_TRIES ≤ n → AreFewTries n → next_text (drop 1 (lines_of text)) ≡ Some (tries_line n).text → ⊥)
     → IsFirstFault net text 2
 no_tries_fault net text network head none =
     let any = begins_any net text in

@@ -1,7 +1,8 @@
 -- The lines of a report's text.
-use Rattle.std.proofs.Common.{◌≡◌, ◌==◌, ℕ, suc, ◌<◌, ◌≤◌, ◌^◌, Bool, true, false, List, [], ◌∷◌, ◌++◌, length, flat_map, slice_get, Some, codes, decimal, refl, ap, sym, ◌∙◌, append_assoc, lit≤, arith}
+use Rattle.std.proofs.Common.{◌≡◌, ◌==◌, ℕ, suc, ◌<◌, Bool, true, false, List, [], ◌∷◌, ◌++◌, length, flat_map, slice_get, Some, codes, decimal, refl, ap, sym, ◌∙◌, append_assoc, lit≤, arith}
 use Rattle.std.specs.List.{slice_split, join_with_byte, All}
 use Rattle.std.proofs.lemmas.List.Splits.{slice_split_at, length-slice_split}
+use Rattle.rl_base.specs.Tries.{AreFewTries}
 use Rattle.rl_text.specs.Lines.{lines_of, lines_of_parts}
 use Rattle.rl_model.specs.declared.moves.Move.{Move}
 use Rattle.rl_model.specs.declared.network.NetworkPlan.{NetworkPlan}
@@ -13,7 +14,7 @@ use Rattle.rl_model.specs.ReportText.{line_of, move_words, move_line, outcome_li
 use Rattle.rl_report.specs.Words.{IsCount, outcome_words}
 use Rattle.rl_report.specs.Grammar.{whole_line}
 use Rattle.rl_report.specs.Reading.{head_line, end_line, move_lines, train_lines, front_lines}
-use Rattle.rl_report.proofs.Plain.{are_plain, plain_move, plain_outcome, plain_decimal, no_lf_in_joined, not_in_above}
+use Rattle.rl_report.proofs.Plain.{are_plain, plain_move, plain_outcome, plain_decimal, small_count, no_lf_in_joined, not_in_above}
 
 abbrev is_lf : ℕ → Bool
 is_lf b = b == 10
@@ -42,9 +43,6 @@ lines_of-moves net (m ∷ moves) rest network =
     ∙ lines_of-words (move_words net m) (flat_map (move_line net) moves ++ rest) (plain_move net m network)
     ∙ ap (λ lines. whole_line (move_words net m) ∷ lines) (lines_of-moves net moves rest network)
 
-small : (n : ℕ) → n ≤ 1000000 → n < 2 ^ 64
-small n h = omega arith
-
 -- the lines of the trains
 lines_of-trains : (net : NetworkPlan) (t : ℕ) (outcomes : List Outcome) (rest : List ℕ) → IsNetwork net
     → ((k : ℕ) (o : Outcome) → slice_get outcomes k ≡ Some o → IsCount o.made × IsCount o.refused)
@@ -54,14 +52,14 @@ lines_of-trains net t (o ∷ outcomes) rest network counts =
     let here = counts 0 o refl in
     ap lines_of (append_assoc (outcome_line net t o) (outcome_lines net (suc t) outcomes) rest)
     ∙ lines_of-words (outcome_words net t o) (outcome_lines net (suc t) outcomes ++ rest)
-    (plain_outcome net t o network (small o.made here.0) (small o.refused here.1))
+    (plain_outcome net t o network (small_count o.made here.0) (small_count o.refused here.1))
     ∙ ap (λ lines. whole_line (outcome_words net t o) ∷ lines) (lines_of-trains net (suc t) outcomes rest network (λ k p at. counts (suc k) p at))
 
 lines_of-head : (rest : List ℕ) → lines_of (codes "relis report 1\n" ++ rest) ≡ head_line ∷ lines_of rest
 lines_of-head rest = lines_of-line (codes "relis report 1") rest (not_in_above 10 10 (codes "relis report 1") (lit≤ tt) refl)
 
-plain_tries : (n : ℕ) → n ≤ 1000 → are_plain (codes "tries" ∷ decimal n ∷ []) ≡ true
-plain_tries n h = rw (plain_decimal n (small n (omega arith))) refl
+plain_tries : (n : ℕ) → AreFewTries n → are_plain (codes "tries" ∷ decimal n ∷ []) ≡ true
+plain_tries n h = rw (plain_decimal n (small_count n (omega arith))) refl
 
 regroup : (a b c d e : List ℕ) → (((a ++ b) ++ c) ++ d) ++ e ≡ a ++ (b ++ (c ++ (d ++ e)))
 regroup a b c d e = simp append_assoc

@@ -3,6 +3,7 @@ use Rattle.std.proofs.Common.{◌≡◌, ℕ, suc, ◌+◌, ◌*◌, ◌-◌, �
 use Rattle.std.specs.Str.Parse.{digits_value}
 use Rattle.std.proofs.lemmas.Fmt.{digits_value-decimal}
 use Rattle.std.proofs.lemmas.Option.{same_Some}
+use Rattle.rl_base.specs.Tries.{AreFewTries}
 use Rattle.rl_base.specs.declared.ids.SegId.{SegId}
 use Rattle.rl_base.specs.declared.ids.BoxId.{BoxId}
 use Rattle.rl_base.specs.declared.ids.TrainId.{TrainId}
@@ -32,7 +33,7 @@ use Rattle.rl_report.specs.Grammar.{IsMoveLine, IsOutcomeLine, IsTextOf, BeginsR
 use Rattle.rl_report.specs.Reading.{end_line, move_lines, train_lines, front_lines, tries_line}
 use Rattle.rl_report.proofs.Agreement.{StartsWithNoMove, move_or_end, move_or_train, trains_no_move}
 use Rattle.rl_report.proofs.LinesOf.{lines_of-report}
-use Rattle.rl_report.proofs.Plain.{plain_outcome}
+use Rattle.rl_report.proofs.Plain.{plain_outcome, small_count}
 use Rattle.rl_report.proofs.Joined.{words_of-joined}
 use Rattle.rl_report.proofs.ReadLines.{same_train, one_train, tries_words, words_of_move, words_from_move_line, words_from_outcome_line}
 use Rattle.rl_report.proofs.Within.{none_within}
@@ -205,15 +206,12 @@ pub one_move_line : (net : NetworkPlan) (text : List ℕ) (m n : Move) → IsNet
 one_move_line net text m n network is is2 =
     one_move net m n network is.of is2.of (sym (words_from_move_line net text m network is) ∙ words_from_move_line net text n network is2)
 
-small : (n : ℕ) → n ≤ 1000000 → n < 2 ^ 64
-small n h = omega arith
-
 one_outcome : (net : NetworkPlan) (t : ℕ) (o p : Outcome) → IsCount o.made → IsCount o.refused → IsCount p.made → IsCount p.refused
     → outcome_words net t o ≡ outcome_words net t p → o ≡ p
 one_outcome net t o p made refused made2 refused2 e =
     let fates = fate_is o.fate p.fate (ap (λ ws. get_or ws 2 []) e) in
-    let mades = decimal_is o.made p.made (small o.made made) (small p.made made2) (ap (λ ws. get_or ws 3 []) e) in
-    let refusals = decimal_is o.refused p.refused (small o.refused refused) (small p.refused refused2) (ap (λ ws. get_or ws 4 []) e) in
+    let mades = decimal_is o.made p.made (small_count o.made made) (small_count p.made made2) (ap (λ ws. get_or ws 3 []) e) in
+    let refusals = decimal_is o.refused p.refused (small_count o.refused refused) (small_count p.refused refused2) (ap (λ ws. get_or ws 4 []) e) in
     ap (λ (f : Fate). let x : Outcome = record { fate = f; made = o.made; refused = o.refused } in x) fates
     ∙ ap (λ (n : ℕ). let x : Outcome = record { fate = p.fate; made = n; refused = o.refused } in x) mades
     ∙ ap (λ (n : ℕ). let x : Outcome = record { fate = p.fate; made = p.made; refused = n } in x) refusals
@@ -234,9 +232,9 @@ same_words net m n network e = sym (words_of_move net m network) ∙ ap (λ (l :
 same_outcome_words : (net : NetworkPlan) (t : ℕ) (o p : Outcome) → IsNetwork net → IsCount o.made × IsCount o.refused → IsCount p.made × IsCount p.refused
     → whole_line (outcome_words net t o) ≡ whole_line (outcome_words net t p) → outcome_words net t o ≡ outcome_words net t p
 same_outcome_words net t o p network counts counts2 e =
-    sym (words_of-joined _ _ (plain_outcome net t o network (small o.made counts.0) (small o.refused counts.1)))
+    sym (words_of-joined _ _ (plain_outcome net t o network (small_count o.made counts.0) (small_count o.refused counts.1)))
     ∙ ap (λ (l : Line). words_of l.text) e
-    ∙ words_of-joined _ _ (plain_outcome net t p network (small p.made counts2.0) (small p.refused counts2.1))
+    ∙ words_of-joined _ _ (plain_outcome net t p network (small_count p.made counts2.0) (small_count p.refused counts2.1))
 
 -- the same lines have the same moves, and the same rest
 record SameMoves (moves others : List Move) (rest tail : List Line) : Type 0 where
@@ -271,7 +269,7 @@ trains_same net t (o ∷ outcomes) (p ∷ others) rest tail network counts count
     (ap (λ (ls : List Line). drop 1 ls) e) in
     ap (λ x. x ∷ outcomes) first ∙ ap (λ xs. p ∷ xs) later
 
-tries_same : (m n : ℕ) → m ≤ 1000 → n ≤ 1000 → tries_line m ≡ tries_line n → m ≡ n
+tries_same : (m n : ℕ) → AreFewTries m → AreFewTries n → tries_line m ≡ tries_line n → m ≡ n
 tries_same m n small_m small_n e =
     decimal_is m n (omega arith) (omega arith)
     (ap (λ ws. get_or ws 1 []) (sym (tries_words m small_m) ∙ ap (λ (l : Line). words_of l.text) e ∙ tries_words n small_n))

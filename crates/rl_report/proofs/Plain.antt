@@ -23,7 +23,7 @@ use Rattle.rl_model.specs.declared.report.Outcome.{Outcome}
 use Rattle.rl_model.specs.Network.{IsNetwork, segment_name, box_name, train_name}
 use Rattle.rl_base.specs.Kind.{side_word}
 use Rattle.rl_model.specs.ReportText.{move_words, fate_word}
-use Rattle.rl_report.specs.Words.{outcome_words}
+use Rattle.rl_report.specs.Words.{IsCount, outcome_words}
 
 -- bytes above the space, and so above LF
 abbrev pub is_plain : List ℕ → Bool
@@ -51,6 +51,10 @@ plain_name : (name : List ℕ) → IsTrue (is_name name) → is_plain name ≡ t
 plain_name name h =
     let bytes : list_all is_name_byte name ≡ true = grind (arith, nat_tests) in
     by_byte is_name_byte name_byte name bytes
+
+-- a number that may stand in a line has 64 bits
+pub small_count : (n : ℕ) → IsCount n → n < 2 ^ 64
+small_count n h = omega arith
 
 pub plain_decimal : (n : ℕ) → n < 2 ^ 64 → is_plain (decimal n) ≡ true
 plain_decimal n h = by_byte is_ascii_digit digit_byte (decimal n) (digits_decimal digits_model n h)

@@ -1,7 +1,8 @@
 -- The words of a move's line, and of a train's.
-use Rattle.std.proofs.Common.{◌≡◌, ℕ, ◌≤◌, ◌<◌, ◌^◌, length, codes, List, [], ◌∷◌, ◌++◌, sym, ap, ◌∙◌, refl, get_or, slice_get, Option, Some, None, decimal, arith}
+use Rattle.std.proofs.Common.{◌≡◌, ℕ, ◌<◌, length, codes, List, [], ◌∷◌, ◌++◌, sym, ap, ◌∙◌, refl, get_or, slice_get, Option, Some, None, decimal, arith}
 use Rattle.std.specs.List.{join_with_byte}
 use Rattle.std.proofs.lemmas.List.{append_cancel_right}
+use Rattle.rl_base.specs.Tries.{AreFewTries}
 use Rattle.rl_text.specs.Words.{words_of}
 use Rattle.rl_model.specs.declared.moves.Move.{Move}
 use Rattle.rl_model.specs.declared.network.NetworkPlan.{NetworkPlan}
@@ -14,7 +15,7 @@ use Rattle.rl_model.specs.ReportText.{line_of, move_words}
 use Rattle.rl_report.specs.Words.{IsCount, outcome_words}
 use Rattle.rl_report.specs.Grammar.{IsMoveLine, IsOutcomeLine}
 use Rattle.rl_report.proofs.NamedMoves.{named}
-use Rattle.rl_report.proofs.Plain.{plain_move, plain_outcome, plain_decimal}
+use Rattle.rl_report.proofs.Plain.{plain_move, plain_outcome, plain_decimal, small_count}
 use Rattle.rl_report.proofs.Joined.{words_of-joined, joined-words_of}
 
 -- the line of some words, where they are the words of the text
@@ -44,14 +45,11 @@ outcome_line_from_words net text t o train made refused e =
 pub words_from_outcome_line : (net : NetworkPlan) (text : List ℕ) (t : ℕ) (o : Outcome) → IsNetwork net → IsOutcomeLine net text t o
     → words_of text ≡ outcome_words net t o
 words_from_outcome_line net text t o network is =
-    let plain = plain_outcome net t o network (small o.made is.made) (small o.refused is.refused) in
+    let plain = plain_outcome net t o network (small_count o.made is.made) (small_count o.refused is.refused) in
     ap words_of (append_cancel_right text (join_with_byte 32 (outcome_words net t o)) (10 ∷ []) is.line) ∙ words_of-joined _ _ plain
-  where
-    small : (n : ℕ) → n ≤ 1000000 → n < 2 ^ 64
-    small n h = omega arith
 
 -- a number behind its word is cut from it again
-pub tries_words : (n : ℕ) → n ≤ 1000 → words_of (join_with_byte 32 (codes "tries" ∷ decimal n ∷ [])) ≡ codes "tries" ∷ decimal n ∷ []
+pub tries_words : (n : ℕ) → AreFewTries n → words_of (join_with_byte 32 (codes "tries" ∷ decimal n ∷ [])) ≡ codes "tries" ∷ decimal n ∷ []
 tries_words n h = words_of-joined (codes "tries") (decimal n ∷ []) (rw (plain_decimal n (omega arith)) refl)
 
 -- trains of one name are one train

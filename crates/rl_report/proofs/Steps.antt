@@ -3,6 +3,8 @@ use Rattle.std.proofs.Common.{◌≡◌, ℕ, zero, suc, ◌+◌, ◌<◌, ◌�
 use Rattle.std.specs.List.{join_with_byte}
 use Rattle.std.proofs.lemmas.List.{append_cancel_right, map-append}
 use Rattle.std.proofs.lemmas.Option.{same_Some}
+use Rattle.rl_base.specs.Tries.{AreFewTries}
+use Rattle.rl_base.specs.declared.limits.TheConstants.{MIN_TRIES}
 use Rattle.rl_text.specs.Lines.{Line, Reading, lines_of, longest_text}
 use Rattle.rl_model.specs.declared.moves.Move.{Move}
 use Rattle.rl_model.specs.declared.network.NetworkPlan.{NetworkPlan}
@@ -92,7 +94,7 @@ train_step net text line x t o old new next is left count at read =
 -- behind the first two lines
 pub head_step : (net : NetworkPlan) (text line : List ℕ) (moves : List Move) (tries : ℕ) (reading : Reading)
     → next_text (lines_of text) ≡ Some (codes "relis report 1")
-    → next_text (drop 1 (lines_of text)) ≡ Some line → line ≡ (tries_line tries).text → 1 ≤ tries → tries ≤ 1000
+    → next_text (drop 1 (lines_of text)) ≡ Some line → line ≡ (tries_line tries).text → MIN_TRIES ≤ tries → AreFewTries tries
     → HasMoves net text moves reading
     → HasRead net text (record { tries = tries; moves = moves; outcomes = [] }) reading
 head_step net text line moves tries reading first next is some few read =

@@ -1,7 +1,8 @@
 -- How far a report was read.
 use Rattle.std.specs.Prelude.{◌≡◌, ℕ, suc, ◌+◌, ◌≤◌, true, List, [], ◌∷◌, ◌++◌}
 use Rattle.std.specs.Prelude.{length, drop, map, codes, decimal, slice_get, Option, Some, None, if◌then◌else◌}
-use Rattle.rl_base.specs.declared.limits.TheConstants.{MIN_TRIES, MAX_TRIES}
+use Rattle.rl_base.specs.Tries.{AreFewTries}
+use Rattle.rl_base.specs.declared.limits.TheConstants.{MIN_TRIES}
 use Rattle.rl_text.specs.Lines.{Line, Reading, lines_of}
 use Rattle.rl_model.specs.declared.moves.Move.{Move}
 use Rattle.rl_model.specs.declared.network.NetworkPlan.{NetworkPlan}
@@ -56,7 +57,7 @@ pub record HasMoves (net : NetworkPlan) (text : List ℕ) (moves : List Move) (r
 -- of a report these attempts, moves and outcomes were read, from the first train on
 pub record HasRead (net : NetworkPlan) (text : List ℕ) (report : Report) (reading : Reading) : Type 0 where
   pub some_tries : MIN_TRIES ≤ report.tries
-  pub few_tries : report.tries ≤ MAX_TRIES
+  pub few_tries : AreFewTries report.tries
   pub moves : (k : ℕ) (m : Move) → slice_get report.moves k ≡ Some m → IsMoveOf net m
   pub outcomes : (t : ℕ) (o : Outcome) → slice_get report.outcomes t ≡ Some o → IsCount o.made × IsCount o.refused
   pub trains : length report.outcomes ≤ length net.trains

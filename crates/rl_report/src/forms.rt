@@ -8,7 +8,7 @@ ghost use Rattle.rl_model.specs.Network.{segment_name, box_name, train_name};
 ghost use Rattle.rl_base.specs.Kind.{side_word};
 
 use crate::words::Words;
-use rl_base::{BoxId, SegId, Side, TrainId};
+use rl_base::{BoxId, SegId, Side, TrainId, side_word};
 use rl_net::Network;
 
 /// The side of that name.
@@ -16,9 +16,9 @@ fn side_of(word: &[u8]) -> Option<Side>
     ensures some { IfSome result (λ side. word.now ≡ side_word side) }
     ensures none { IfNone result ((side : Side) → word.now ≢ side_word side) }
 {
-    if word == b"left".as_slice() {
+    if word == side_word(Side::Left) {
         Some(Side::Left)
-    } else if word == b"right".as_slice() {
+    } else if word == side_word(Side::Right) {
         Some(Side::Right)
     } else {
         None

@@ -30,29 +30,50 @@ pub(crate) enum MoveName {
     Bar,
 }
 
+impl MoveName {
+    /// How it is written.
+    pub(crate) fn word(self) -> &'static [u8]
+        ensures { result.now ≡ name_word self }
+    {
+        match self {
+            MoveName::Reserve => b"reserve",
+            MoveName::Release => b"release",
+            MoveName::Lock => b"lock",
+            MoveName::Unlock => b"unlock",
+            MoveName::Throw => b"throw",
+            MoveName::Settle => b"settle",
+            MoveName::Enter => b"enter",
+            MoveName::Leave => b"leave",
+            MoveName::Refuse => b"refuse",
+            MoveName::Bar => b"bar",
+        }
+    }
+}
+
+/// The name that is this word.
 fn move_name(word: &[u8]) -> Option<MoveName>
     ensures some { IfSome result (λ name. word.now ≡ name_word name) }
     ensures none { IfNone result ((name : MoveName) → word.now ≢ name_word name) }
 {
-    if word == b"reserve".as_slice() {
+    if word == MoveName::Reserve.word() {
         Some(MoveName::Reserve)
-    } else if word == b"release".as_slice() {
+    } else if word == MoveName::Release.word() {
         Some(MoveName::Release)
-    } else if word == b"lock".as_slice() {
+    } else if word == MoveName::Lock.word() {
         Some(MoveName::Lock)
-    } else if word == b"unlock".as_slice() {
+    } else if word == MoveName::Unlock.word() {
         Some(MoveName::Unlock)
-    } else if word == b"throw".as_slice() {
+    } else if word == MoveName::Throw.word() {
         Some(MoveName::Throw)
-    } else if word == b"settle".as_slice() {
+    } else if word == MoveName::Settle.word() {
         Some(MoveName::Settle)
-    } else if word == b"enter".as_slice() {
+    } else if word == MoveName::Enter.word() {
         Some(MoveName::Enter)
-    } else if word == b"leave".as_slice() {
+    } else if word == MoveName::Leave.word() {
         Some(MoveName::Leave)
-    } else if word == b"refuse".as_slice() {
+    } else if word == MoveName::Refuse.word() {
         Some(MoveName::Refuse)
-    } else if word == b"bar".as_slice() {
+    } else if word == MoveName::Bar.word() {
         Some(MoveName::Bar)
     } else {
         None
@@ -128,18 +149,8 @@ fn likely_name(line: &[u8]) -> MoveName {
 fn after_name(line: &[u8], name: MoveName) -> Option<&[u8]>
     ensures { IfSome result (λ rest. words_of line.now ≡ name_word name ∷ words_of rest.now) }
 {
-    match name {
-        MoveName::Reserve => line.strip_prefix(b"reserve ".as_slice()),
-        MoveName::Release => line.strip_prefix(b"release ".as_slice()),
-        MoveName::Lock => line.strip_prefix(b"lock ".as_slice()),
-        MoveName::Unlock => line.strip_prefix(b"unlock ".as_slice()),
-        MoveName::Throw => line.strip_prefix(b"throw ".as_slice()),
-        MoveName::Settle => line.strip_prefix(b"settle ".as_slice()),
-        MoveName::Enter => line.strip_prefix(b"enter ".as_slice()),
-        MoveName::Leave => line.strip_prefix(b"leave ".as_slice()),
-        MoveName::Refuse => line.strip_prefix(b"refuse ".as_slice()),
-        MoveName::Bar => line.strip_prefix(b"bar ".as_slice()),
-    }
+    let rest = line.strip_prefix(name.word())?;
+    rest.strip_prefix(b" ".as_slice())
 }
 
 /// The name that is the first word of the line, and the words after it.
@@ -172,6 +183,6 @@ pub fn read_move(net: &Network, line: &[u8]) -> Option<Move>
     ensures none { IfNone result ((m : Move) → IsMoveLine net.now line.now m → ⊥) }
 {
     // What acceptance gave, for the proof.
-    let _trains = net.trains();
+    net.accepted();
     read_words(line, net)
 }

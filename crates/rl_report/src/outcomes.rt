@@ -1,6 +1,7 @@
 ghost use Rattle.std.specs.Prelude.{◌≡◌, ◌≢◌, ◌≤◌, ◌∷◌, [], ℕ, List, IfSome, IfNone, codes, decimal};
 ghost use Rattle.rl_base.specs.declared.ids.TrainId.{TrainId};
-ghost use Rattle.rl_base.specs.declared.limits.TheConstants.{MIN_TRIES, MAX_TRIES};
+ghost use Rattle.rl_base.specs.Tries.{AreFewTries};
+ghost use Rattle.rl_base.specs.declared.limits.TheConstants.{MIN_TRIES};
 ghost use Rattle.rl_model.specs.declared.report.Fate.{Fate};
 ghost use Rattle.rl_model.specs.declared.report.Outcome.{Outcome};
 ghost use Rattle.rl_model.specs.Network.{IsTrainOf};
@@ -8,6 +9,7 @@ ghost use Rattle.rl_model.specs.ReportText.{fate_word};
 ghost use Rattle.rl_report.specs.Words.{IsCount, outcome_words};
 ghost use Rattle.rl_report.specs.Grammar.{IsOutcomeLine};
 
+use crate::report::fate_word;
 use crate::words::Words;
 use rl_base::TrainId;
 use rl_base::limits::{MAX_MOVES, MAX_TRIES, MIN_TRIES};
@@ -20,11 +22,11 @@ fn fate_of(word: &[u8]) -> Option<Fate>
     ensures some { IfSome result (λ fate. word.now ≡ fate_word fate) }
     ensures none { IfNone result ((fate : Fate) → word.now ≢ fate_word fate) }
 {
-    if word == b"arrived".as_slice() {
+    if word == fate_word(Fate::Arrived) {
         Some(Fate::Arrived)
-    } else if word == b"spent".as_slice() {
+    } else if word == fate_word(Fate::Spent) {
         Some(Fate::Spent)
-    } else if word == b"underway".as_slice() {
+    } else if word == fate_word(Fate::Underway) {
         Some(Fate::Underway)
     } else {
         None
@@ -102,14 +104,14 @@ pub fn read_outcome(net: &Network, line: &[u8]) -> Option<(TrainId, Outcome)>
     ensures none { IfNone result ((t : TrainId) (o : Outcome) → IsOutcomeLine net.now line.now t.0 o → ⊥) }
 {
     // What acceptance gave, for the proof.
-    let _trains = net.trains();
+    net.accepted();
     read_outcome_words(&mut Words::new(line), net)
 }
 
 /// The number that the word writes, if it is one of attempts.
 fn tries_of(word: &[u8]) -> Option<u32>
-    ensures some { IfSome result (λ n. (MIN_TRIES ≤ n) × (n ≤ MAX_TRIES) × (word.now ≡ decimal n)) }
-    ensures none { IfNone result ((n : ℕ) → MIN_TRIES ≤ n → n ≤ MAX_TRIES → word.now ≢ decimal n) }
+    ensures some { IfSome result (λ n. (MIN_TRIES ≤ n) × AreFewTries n × (word.now ≡ decimal n)) }
+    ensures none { IfNone result ((n : ℕ) → MIN_TRIES ≤ n → AreFewTries n → word.now ≢ decimal n) }
 {
     match read_number(word) {
         Some(n) if u64::from(MIN_TRIES) <= n && n <= u64::from(MAX_TRIES) => Some(n as u32),
@@ -119,9 +121,9 @@ fn tries_of(word: &[u8]) -> Option<u32>
 
 /// Reads the words of the second line: the attempts.
 pub(crate) fn read_tries(words: &mut Words<'_>) -> Option<u32>
-    ensures some { IfSome result (λ n. (MIN_TRIES ≤ n) × (n ≤ MAX_TRIES)
+    ensures some { IfSome result (λ n. (MIN_TRIES ≤ n) × AreFewTries n
         × (words.old ≡ codes "tries" ∷ decimal n ∷ [])) }
-    ensures none { IfNone result ((n : ℕ) → MIN_TRIES ≤ n → n ≤ MAX_TRIES
+    ensures none { IfNone result ((n : ℕ) → MIN_TRIES ≤ n → AreFewTries n
         → words.old ≢ codes "tries" ∷ decimal n ∷ []) }
 {
     if words.next()? != b"tries".as_slice() {

@@ -97,7 +97,7 @@ fn read_text(alloc: Global, net: &Network, text: &[u8]) -> Result<Report, Report
     ensures { ReadsAs net.now text.now result }
 {
     // What acceptance gave, for the proof.
-    let _trains = net.trains();
+    net.accepted();
     if text.len() > MAX_REPORT_BYTES {
         return Err(ReportRefusal::Long);
     }
@@ -119,6 +119,6 @@ pub fn read_report(alloc: Global, net: &Network, text: &[u8]) -> Result<Report, 
 {
     // The law that a text has one reading, and what acceptance gave, for the proof.
     one_reading();
-    let _trains = net.trains();
+    net.accepted();
     read_text(alloc, net, text)
 }

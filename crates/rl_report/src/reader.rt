@@ -1,7 +1,8 @@
 ghost use Rattle.std.specs.Prelude.{◌≡◌, ◌≢◌, ◌+◌, ◌<◌, ◌≤◌, ◌↔◌, [], ◌∷◌, ◌++◌, ℕ, List};
 ghost use Rattle.std.specs.Prelude.{length, drop, codes, Some, IsSome, IsTrue, IfSome, IfNone, OnOk, IfOk, IfErr};
 ghost use Rattle.std.specs.Option.{option_copied};
-ghost use Rattle.rl_base.specs.declared.limits.TheConstants.{MIN_TRIES, MAX_TRIES};
+ghost use Rattle.rl_base.specs.Tries.{AreFewTries};
+ghost use Rattle.rl_base.specs.declared.limits.TheConstants.{MIN_TRIES};
 ghost use Rattle.rl_text.specs.Lines.{Reading, lines_of, longest_text};
 ghost use Rattle.rl_model.specs.declared.moves.Move.{Move};
 ghost use Rattle.rl_model.specs.declared.network.NetworkPlan.{NetworkPlan};
@@ -32,7 +33,6 @@ pub struct ReportLines<'a> {
 
 impl<'a> Model for ReportLines<'a> {
     ghost use Rattle.std.specs.Prelude.{◌≡◌, ◌≤◌, length};
-    ghost use Rattle.rl_base.specs.declared.limits.TheConstants.{MIN_TRIES, MAX_TRIES};
     ghost use Rattle.rl_text.specs.Lines.{Reading, longest_text};
     ghost use Rattle.rl_report.specs.Lines.{left_in, Counts};
 
@@ -131,7 +131,7 @@ impl<'a> ReportLines<'a> {
             → IsFirstFault net.now text n) }
     {
         // What acceptance gave, for the proof.
-        let _trains = net.trains();
+        net.accepted();
         match self.peek() {
             Some(line) => match outcome_of(net, t, line) {
                 Some(o) => {
@@ -156,7 +156,7 @@ impl<'a> ReportLines<'a> {
             → IsFirstFault net.now text n) }
     {
         // What acceptance gave, for the proof.
-        let _trains = net.trains();
+        net.accepted();
         if !is_last_line(self.peek()) {
             return Err(self.next_number());
         }
@@ -203,9 +203,9 @@ fn is_last_line(line: Option<&[u8]>) -> bool
 
 /// The attempts that the line gives.
 fn tries_in(line: Option<&[u8]>) -> Option<u32>
-    ensures some { IfSome result (λ n. (MIN_TRIES ≤ n) × (n ≤ MAX_TRIES)
+    ensures some { IfSome result (λ n. (MIN_TRIES ≤ n) × AreFewTries n
         × (option_copied line.entry ≡ Some (tries_line n).text)) }
-    ensures none { IfNone result ((n : ℕ) → MIN_TRIES ≤ n → n ≤ MAX_TRIES
+    ensures none { IfNone result ((n : ℕ) → MIN_TRIES ≤ n → AreFewTries n
         → option_copied line.entry ≢ Some (tries_line n).text) }
 {
     match line {
@@ -215,8 +215,8 @@ fn tries_in(line: Option<&[u8]>) -> Option<u32>
 }
 
 fn tries_of_line(text: &[u8]) -> Option<u32>
-    ensures some { IfSome result (λ n. (MIN_TRIES ≤ n) × (n ≤ MAX_TRIES) × (text.now ≡ (tries_line n).text)) }
-    ensures none { IfNone result ((n : ℕ) → MIN_TRIES ≤ n → n ≤ MAX_TRIES → text.now ≢ (tries_line n).text) }
+    ensures some { IfSome result (λ n. (MIN_TRIES ≤ n) × AreFewTries n × (text.now ≡ (tries_line n).text)) }
+    ensures none { IfNone result ((n : ℕ) → MIN_TRIES ≤ n → AreFewTries n → text.now ≢ (tries_line n).text) }
 {
     read_tries(&mut Words::new(text))
 }
@@ -227,7 +227,7 @@ fn outcome_of(net: &Network, t: TrainId, line: &[u8]) -> Option<Outcome>
     ensures none { IfNone result ((o : Outcome) → IsOutcomeLine net.now line.now t.0 o → ⊥) }
 {
     // What acceptance gave, for the proof.
-    let _trains = net.trains();
+    net.accepted();
     match read_outcome(net, line) {
         Some((u, o)) if u == t => Some(o),
         _ => None,

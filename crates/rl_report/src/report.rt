@@ -5,13 +5,15 @@ ghost use Rattle.rl_model.specs.Moves.{IsMoveOf};
 ghost use Rattle.rl_model.specs.Reports.{IsReportOf};
 ghost use Rattle.rl_model.specs.ReportText.{report_text, move_line, outcome_line, outcome_lines, fate_word};
 
+use crate::moves::MoveName;
 use rl_base::{BoxId, NoMemory, SegId, Side, TrainId, side_word};
 use rl_model::{Fate, Move, Outcome, Report};
 use rl_net::Network;
 use rl_text::Out;
 use std::alloc::Global;
 
-fn fate_word(fate: Fate) -> &'static [u8]
+/// How a fate is written.
+pub(crate) fn fate_word(fate: Fate) -> &'static [u8]
     ensures { result.now ≡ fate_word fate }
 {
     match fate {
@@ -26,7 +28,7 @@ fn put_settle(out: &mut Out, net: &Network, b: BoxId, side: Side) -> Result<(), 
     requires { IsBoxOf net.now b }
     ensures { OnOk result (out.new ≡ out.old ++ move_line net.now (Move.Settle b side)) }
 {
-    out.text(b"settle")?;
+    out.text(MoveName::Settle.word())?;
     out.word(net.box_name(b))?;
     out.word(side_word(side))?;
     out.text(b"\n")
@@ -39,15 +41,15 @@ fn put_move(out: &mut Out, net: &Network, m: Move) -> Result<(), NoMemory>
 {
     match m {
         Move::Reserve { t, s, b } => out.line(
-            b"reserve",
+            MoveName::Reserve.word(),
             &[net.train_name(t), net.seg_name(s), net.box_name(b)],
         ),
         Move::Release { t, s, b } => out.line(
-            b"release",
+            MoveName::Release.word(),
             &[net.train_name(t), net.seg_name(s), net.box_name(b)],
         ),
         Move::Lock { t, b, s, s2 } => out.line(
-            b"lock",
+            MoveName::Lock.word(),
             &[
                 net.train_name(t),
                 net.box_name(b),
@@ -55,11 +57,16 @@ fn put_move(out: &mut Out, net: &Network, m: Move) -> Result<(), NoMemory>
                 net.seg_name(s2),
             ],
         ),
-        Move::Unlock { t, b } => { out.line(b"unlock", &[net.train_name(t), net.box_name(b)]) }
-        Move::Throw { b } => out.line(b"throw", &[net.box_name(b)]),
+        Move::Unlock { t, b } => {
+            out.line(
+                MoveName::Unlock.word(),
+                &[net.train_name(t), net.box_name(b)],
+            )
+        }
+        Move::Throw { b } => out.line(MoveName::Throw.word(), &[net.box_name(b)]),
         Move::Settle { b, side } => put_settle(out, net, b, side),
         Move::Enter { t, b, s, s2 } => out.line(
-            b"enter",
+            MoveName::Enter.word(),
             &[
                 net.train_name(t),
                 net.box_name(b),
@@ -67,9 +74,12 @@ fn put_move(out: &mut Out, net: &Network, m: Move) -> Result<(), NoMemory>
                 net.seg_name(s2),
             ],
         ),
-        Move::Leave { t, s } => out.line(b"leave", &[net.train_name(t), net.seg_name(s)]),
+        Move::Leave { t, s } => out.line(
+            MoveName::Leave.word(),
+            &[net.train_name(t), net.seg_name(s)],
+        ),
         Move::Refuse { t, s, b, u } => out.line(
-            b"refuse",
+            MoveName::Refuse.word(),
             &[
                 net.train_name(t),
                 net.seg_name(s),
@@ -78,7 +88,7 @@ fn put_move(out: &mut Out, net: &Network, m: Move) -> Result<(), NoMemory>
             ],
         ),
         Move::Bar { t, b, u } => out.line(
-            b"bar",
+            MoveName::Bar.word(),
             &[net.train_name(t), net.box_name(b), net.train_name(u)],
         ),
     }

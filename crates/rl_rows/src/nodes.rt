@@ -34,7 +34,7 @@ fn a_train_arrives(rt: HostRuntime) -> Result<(), Fail> {
     let seats = all_seats(alloc, &mut rails, &line)?;
     let mut nodes = lay_nodes(alloc, &rails, &line, seats, 100, 1000)?;
     assert!(rt; nodes.len() == 8 && !nodes.at(0).at_rest());
-    many_rounds(&rt, nodes.nodes_mut())?;
+    many_rounds(&rt, nodes.as_mut_slice())?;
     assert!(rt; nodes.as_slice().iter().all(|node| node.at_rest()));
     for (node, events) in nodes.as_slice().iter().zip(EVENTS) {
         assert_eq!(rt; node.len(), events);
@@ -57,7 +57,7 @@ fn a_record_of_one_event_is_full(rt: HostRuntime) -> Result<(), Fail> {
     let seats = all_seats(alloc, &mut rails, &line)?;
     let mut nodes = lay_nodes(alloc, &rails, &line, seats, 100, 1)?;
     assert_eq!(rt; nodes.len(), 8);
-    let lent = nodes.nodes_mut();
+    let lent = nodes.as_mut_slice();
     let posted = Event {
         node: NodeNo(0),
         stamp: 1,

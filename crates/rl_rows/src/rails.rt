@@ -2,17 +2,16 @@
 ghost use Rattle.std.specs.Prelude.{◌≡◌, ◌<◌, ◌≤◌, ◌+◌, ◌∷◌, length, IfSome, IfOk, []};
 ghost use Rattle.rl_base.specs.Layout.{node_count, word_count};
 ghost use Rattle.rl_tables.specs.Starts.{layout_of};
-ghost use Rattle.rl_minds.specs.Held.{HasMind};
-ghost use Rattle.rl_rule.specs.Seats.{rails_id, line_of, seat_id, seat_line, walk_of};
+ghost use Rattle.rl_steps.specs.Held.{HasMind};
+ghost use Rattle.rl_rule.specs.Seats.{rails_id, rails_line, seat_id, seat_line, walk_of};
 ghost use Rattle.rl_rule.specs.Views.{start_walk};
 
 use crate::driven::line_of;
 use crate::networks::{STRAIGHT, TWO_LINES};
 use rl_base::{NoMemory, NodeNo, WordNo};
-use rl_minds::{act, kept_minds};
 use rl_record::{Event, Events, Record, Records, merge, records_by_node};
 use rl_rule::{NodeSeat, Rails};
-use rl_runs::{Mind, start_mind};
+use rl_steps::{Mind, act, kept_minds, start_mind};
 use rl_tables::Line;
 use rl_words::payload_of;
 use std::alloc::Global;
@@ -28,7 +27,7 @@ fn turn_on(
     w: WordNo,
 ) -> Option<(Event, Mind)>
     requires own { seat_id seat.old ≡ rails_id rails.now }
-    requires line { line_of rails.now ≡ line.now }
+    requires line { rails_line rails.now ≡ line.now }
     requires seat_line { seat_line seat.old ≡ line.now }
     requires there { (walk_of seat.old).node.0 < node_count (layout_of line.now) }
     requires mind { (walk_of seat.old).mind ≡ mind.now }
@@ -57,7 +56,7 @@ fn four_steps(
     train: &mut NodeSeat,
     joint: &mut NodeSeat,
 ) -> Option<[Event; 4]>
-    requires line { line_of rails.now ≡ line.now }
+    requires line { rails_line rails.now ≡ line.now }
     requires nodes { 3 < node_count (layout_of line.now) }
     requires words { 7 < word_count (layout_of line.now) }
     requires train { (seat_id train.old ≡ rails_id rails.now) × (seat_line train.old ≡ line.now) }
@@ -142,7 +141,7 @@ fn steps_on_one_thread(rt: HostRuntime) -> Result<(), Fail> {
 
 /// The first step of a train, on its mail word.
 fn post(line: &Line, rails: &Rails, mut seat: NodeSeat, n: NodeNo, w: WordNo) -> Option<Event>
-    requires line { line_of rails.now ≡ line.now }
+    requires line { rails_line rails.now ≡ line.now }
     requires own { seat_id seat ≡ rails_id rails.now }
     requires seat_line { seat_line seat ≡ line.now }
     requires starts { walk_of seat ≡ start_walk line.now 100 n.0 }
@@ -163,7 +162,7 @@ fn posts<R: Threads + Sync>(
     first: NodeSeat,
     second: NodeSeat,
 ) -> (Option<Event>, Option<Event>)
-    requires line { line_of rails.now ≡ line.now }
+    requires line { rails_line rails.now ≡ line.now }
     requires nodes { 1 < node_count (layout_of line.now) }
     requires words { 14 < word_count (layout_of line.now) }
     requires first { (seat_id first ≡ rails_id rails.now) × (seat_line first ≡ line.now) }

@@ -16,13 +16,13 @@ use Rattle.rl_record.specs.declared.event.Event.{Event}
 use Rattle.rl_record.specs.Merge.{history}
 use Rattle.rl_tables.specs.declared.table.Tables.{Tables}
 use Rattle.rl_tables.specs.Starts.{layout_of}
-use Rattle.rl_runs.specs.Run.{state}
-use Rattle.rl_runs.specs.State.{start_word}
+use Rattle.rl_steps.specs.Run.{state}
+use Rattle.rl_steps.specs.State.{start_word}
 use Rattle.rl_rule.specs.Loads.{last_on, IsAlone, last_value}
 use Rattle.rl_rule.proofs.Histories.{history_own, history_other, last_here, last_there}
 use Rattle.rl_rule.proofs.Known.{Laws}
 use Rattle.rl_rule.proofs.Tellings.{event_owned}
-use Rattle.rl_rule.proofs.WordChains.{Runs, earlier, word_after, word_before, start_value}
+use Rattle.rl_rule.proofs.Runs.{Runs, earlier, word_after, word_before, start_value}
 
 written_last : (tables : Tables) (f : Event) (log : List Event) (n w : ℕ) → f.node.0 ≡ n → f.word.0 ≡ w → last_value tables (history n (f ∷ log)) w ≡ f.now
 written_last tables f log n w own here =

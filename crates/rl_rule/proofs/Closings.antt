@@ -1,15 +1,17 @@
 -- The last state of the table, once every seat was taken in.
-use Rattle.std.proofs.Common.{◌≡◌, ℕ, suc, ◌^◌, ◌<◌, ◌≤◌, ◌==◌, nat_lt, ◌&&◌, List, [], ◌∷◌, length, refl, sym, ap, ◌∙◌, subst}
+use Rattle.std.proofs.Common.{◌≡◌, ℕ, suc, ◌≤◌, ◌==◌, nat_lt, ◌&&◌, List, [], ◌∷◌, length, refl, sym, ap, ◌∙◌, subst}
 use Rattle.std.proofs.Common.{inl, inr, if◌then◌else◌, Bool, true, false, eq-eqb, arith}
 use Rattle.std.proofs.lemmas.Bool.{cases_eq, cases_lt, ne_eqb}
 use Rattle.std.proofs.lemmas.Bool.Decides.{nat_tests}
 use Rattle.atomic_table.specs.Table.{State, Final, Seen}
+use Rattle.rl_base.specs.Numbers.{IsU32}
+use Rattle.rl_base.specs.Tries.{AreFewTries}
 use Rattle.rl_record.specs.declared.event.Event.{Event}
 use Rattle.rl_record.specs.Merge.{history, IsMerge}
 use Rattle.rl_tables.specs.declared.table.Tables.{Tables}
 use Rattle.rl_tables.specs.Kept.{IsLine}
-use Rattle.rl_runs.specs.Run.{state}
-use Rattle.rl_runs.specs.State.{CoreState}
+use Rattle.rl_steps.specs.Run.{state}
+use Rattle.rl_steps.specs.State.{CoreState}
 use Rattle.rl_rule.specs.declared.views.Kept.{Kept}
 use Rattle.rl_rule.specs.declared.views.View.{View}
 use Rattle.rl_rule.specs.declared.views.Role.TheVariants.{Root}
@@ -59,8 +61,8 @@ none_past places n past =
 -- the log behind the last state of the table
 pub record IsLog (tables : Tables) (tries : ℕ) (taken : List Kept) (words : List ℕ) (log : List Event) : Type 0 where
   pub line : IsLine tables
-  pub few_tries : tries ≤ 1000
-  pub room : length log < 2 ^ 32
+  pub few_tries : AreFewTries tries
+  pub room : IsU32 (length log)
   pub replay : IsReplay tables tries taken words log
 
 pub last_log : (tables : Tables) (tries id : ℕ) (view : View) (words : List ℕ) (slots : List (Unit {0})) → view.role ≡ Root →

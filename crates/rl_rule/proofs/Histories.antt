@@ -2,9 +2,10 @@
 use Rattle.std.proofs.Common.{◌≡◌, ℕ, ◌*◌, ◌≤◌, List, [], ◌∷◌, length, Some, refl, ap}
 use Rattle.std.proofs.Common.{eq-eqb, arith}
 use Rattle.std.proofs.lemmas.Bool.{ne_eqb}
+use Rattle.rl_base.specs.declared.limits.TheConstants.{MAX_EVENTS}
 use Rattle.rl_record.specs.declared.event.Event.{Event}
 use Rattle.rl_record.specs.Merge.{history}
-use Rattle.rl_rule.specs.Loads.{last_on, most_of_node, most_events}
+use Rattle.rl_rule.specs.Loads.{last_on, most_nodes, most_events}
 use Rattle.rl_rule.specs.Histories.{sum_below}
 use Rattle.rl_rule.proofs.Lists.{in_buckets, sum_most}
 
@@ -24,10 +25,10 @@ no_items : {A : Type 0} (xs : List A) → xs ≡ [] → length xs ≡ 0
 no_items xs e = ap length e
 
 -- where only the first nodes have events, and none has too many, there are not too many in all
-pub few_events : (k : ℕ) (log : List Event) → k ≤ 320 → ((n : ℕ) → k ≤ n → history n log ≡ []) → ((n : ℕ) → length (history n log) ≤ most_of_node) →
+pub few_events : (k : ℕ) (log : List Event) → k ≤ most_nodes → ((n : ℕ) → k ≤ n → history n log ≡ []) → ((n : ℕ) → length (history n log) ≤ MAX_EVENTS) →
     length log ≤ most_events
 few_events k log few none short =
     let all : sum_below k (λ n. length (history n log)) ≡ length log =
     in_buckets (λ (e : Event). e.node.0) k log (λ n past. no_items (history n log) (none n past)) in
-    let most : sum_below k (λ n. length (history n log)) ≤ k * 1048576 = sum_most k 1048576 (λ n. length (history n log)) short in
+    let most : sum_below k (λ n. length (history n log)) ≤ k * MAX_EVENTS = sum_most k MAX_EVENTS (λ n. length (history n log)) short in
     omega arith

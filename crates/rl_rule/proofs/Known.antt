@@ -1,5 +1,7 @@
 -- What the rule uses of the protocol: runs are sound, a step is its owner's, and a value has one owner.
-use Rattle.std.proofs.Common.{◌≡◌, ℕ, ◌^◌, ◌<◌, ◌≤◌, List, length, Some}
+use Rattle.std.proofs.Common.{◌≡◌, ℕ, List, length, Some}
+use Rattle.rl_base.specs.Numbers.{IsU32}
+use Rattle.rl_base.specs.Tries.{AreFewTries}
 use Rattle.rl_base.specs.declared.layout.Layout.{Layout}
 use Rattle.rl_base.specs.declared.layout.NodeKind.{NodeKind}
 use Rattle.rl_words.specs.Owner.{Owns}
@@ -8,20 +10,21 @@ use Rattle.rl_record.specs.Merge.{history, IsMerge}
 use Rattle.rl_tables.specs.declared.table.Tables.{Tables}
 use Rattle.rl_tables.specs.Kept.{IsLine}
 use Rattle.rl_tables.specs.Starts.{layout_of}
-use Rattle.rl_runs.specs.declared.mind.Mind.{Mind}
-use Rattle.rl_runs.specs.Numbers.{node_at}
-use Rattle.rl_runs.specs.Run.{IsRun, state}
-use Rattle.rl_runs.specs.Sound.{IsMindOf, IsSound}
-use Rattle.rl_runs.specs.Step.{node_step}
+use Rattle.rl_steps.specs.declared.mind.Mind.{Mind}
+use Rattle.rl_steps.specs.Numbers.{node_at}
+use Rattle.rl_steps.specs.Run.{IsRun, state}
+use Rattle.rl_steps.specs.Sound.{IsMindOf, IsSound}
+use Rattle.rl_steps.specs.Step.{node_step}
+use Rattle.rl_merge.specs.Chains.{clock_left, AreChained, AreLeft}
 
 abbrev pub RunsAreSound : Type 0
-RunsAreSound = (tables : Tables) (tries : ℕ) (events : List Event) → IsLine tables → tries ≤ 1000 → length events < 2 ^ 32 → IsRun tables tries events
+RunsAreSound = (tables : Tables) (tries : ℕ) (events : List Event) → IsLine tables → AreFewTries tries → IsU32 (length events) → IsRun tables tries events
     → IsSound tables (length events) (state tables tries events)
 
 abbrev pub StepsAreOwners : Type 0
 StepsAreOwners = (tables : Tables) (n w payload new : ℕ) (mind after : Mind) → IsLine tables
     → ((node : NodeKind) → node_at (layout_of tables) n ≡ Some node → IsMindOf tables node mind) → node_step tables n mind w payload ≡ Some (new, after)
-    → Owns (layout_of tables) w payload n × (new < 2 ^ 32)
+    → Owns (layout_of tables) w payload n × IsU32 new
 
 abbrev pub OwnersAreOne : Type 0
 OwnersAreOne = (lay : Layout) (w payload m n : ℕ) → Owns lay w payload m → Owns lay w payload n → m ≡ n
@@ -31,7 +34,16 @@ pub record Laws : Type 0 where
   pub steps : StepsAreOwners
   pub owners : OwnersAreOne
 
+-- what is proved of the chains of a run
+pub record ChainLaws : Type 0 where
+  pub chained : (tables : Tables) (tries : ℕ) (log : List Event) → IsLine tables → AreFewTries tries → IsU32 (length log) → IsRun tables tries log
+      → AreChained tables tries (λ n. history n log)
+  pub left : (tables : Tables) (tries : ℕ) (log : List Event) → IsLine tables → AreFewTries tries → IsU32 (length log) → IsRun tables tries log
+      → AreLeft tables tries (λ n. history n log) (state tables tries log).words (state tables tries log).minds
+  pub clocks : (tables : Tables) (tries : ℕ) (log : List Event) → IsRun tables tries log
+      → (n : ℕ) → (state tables tries log).clocks n ≡ clock_left (history n log)
+
 -- the merge of the histories of a run is a run to the same state
 abbrev pub MergesAreRuns : Type 0
-MergesAreRuns = (tables : Tables) (tries : ℕ) (log merged : List Event) → IsLine tables → tries ≤ 1000 → length log < 2 ^ 32 → IsRun tables tries log
+MergesAreRuns = (tables : Tables) (tries : ℕ) (log merged : List Event) → IsLine tables → AreFewTries tries → IsU32 (length log) → IsRun tables tries log
     → IsMerge (λ n. history n log) merged → IsRun tables tries merged × (state tables tries merged ≡ state tables tries log)

@@ -9,7 +9,6 @@ pub mod SeatKeeps
 pub mod Walks
 pub mod Closings
 pub mod Crossing
-pub mod NodeChains
-pub mod WordChains
+pub mod Runs
 pub mod Alone
 pub mod RuleHolds

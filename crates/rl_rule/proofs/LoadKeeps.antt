@@ -10,8 +10,8 @@ use Rattle.rl_words.specs.Stamps.{stamp_in}
 use Rattle.rl_record.specs.declared.event.Event.{Event}
 use Rattle.rl_tables.specs.declared.table.Tables.{Tables}
 use Rattle.rl_tables.specs.Starts.{layout_of}
-use Rattle.rl_runs.specs.Run.{state}
-use Rattle.rl_runs.specs.Sound.{IsSound}
+use Rattle.rl_steps.specs.Run.{state}
+use Rattle.rl_steps.specs.Sound.{IsSound}
 use Rattle.rl_rule.specs.declared.views.Load.{Load}
 use Rattle.rl_rule.specs.declared.views.Walk.{Walk}
 use Rattle.rl_rule.specs.declared.views.View.{View}
@@ -23,7 +23,7 @@ use Rattle.rl_rule.specs.Ruled.{IsFresh, IsWalk, Places, KnowsNode, IsRuled}
 use Rattle.rl_rule.proofs.Lists.{set_same, get_index}
 use Rattle.rl_rule.proofs.Known.{Laws}
 use Rattle.rl_rule.proofs.Tellings.{told}
-use Rattle.rl_rule.proofs.WordChains.{Runs}
+use Rattle.rl_rule.proofs.Runs.{Runs}
 use Rattle.rl_rule.proofs.Alone.{alone_value}
 use Rattle.rl_rule.proofs.Others.{few_in_log, as_role, from_role, as_view, root_kept, node_kept}
 

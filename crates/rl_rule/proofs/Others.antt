@@ -2,10 +2,10 @@
 use Rattle.std.proofs.Common.{◌≡◌, ◌≢◌, ℕ, suc, ◌≤◌, ◌==◌, nat_lt, ◌&&◌, List, [], ◌∷◌, length, slice_get, slice_set}
 use Rattle.std.proofs.Common.{Some, refl, sym, ap, ◌∙◌, subst, inl, inr, if◌then◌else◌, Bool, true, false, eq-eqb, arith}
 use Rattle.std.proofs.lemmas.Bool.{cases_eq, ne_eqb}
-use Rattle.std.proofs.lemmas.Bool.Decides.{nat_tests}
 use mathlib.Core.Option.{some}
 use lib.ListN.{get_elem?}
 use Rattle.atomic_table.proofs.Lists.{set_here, set_else}
+use Rattle.rl_base.specs.declared.limits.TheConstants.{MAX_EVENTS}
 use Rattle.rl_base.specs.Layout.{node_count}
 use Rattle.rl_words.specs.Owner.{Owns}
 use Rattle.rl_words.specs.Stamps.{payload_in}
@@ -14,30 +14,25 @@ use Rattle.rl_record.specs.Merge.{history}
 use Rattle.rl_tables.specs.declared.table.Tables.{Tables}
 use Rattle.rl_tables.specs.Kept.{IsLine}
 use Rattle.rl_tables.specs.Starts.{layout_of}
-use Rattle.rl_runs.specs.Run.{state}
-use Rattle.rl_runs.specs.State.{CoreState, put, start_mind, mind_after}
-use Rattle.rl_runs.proofs.Options.{same_some, get_set_other}
+use Rattle.rl_steps.specs.Run.{state}
+use Rattle.rl_steps.specs.State.{CoreState, start_mind, mind_after}
+use Rattle.rl_steps.proofs.Options.{same_some, get_set_other}
 use Rattle.rl_rule.specs.declared.views.Load.{Load}
 use Rattle.rl_rule.specs.declared.views.Walk.{Walk}
 use Rattle.rl_rule.specs.declared.views.Kept.{Kept}
 use Rattle.rl_rule.specs.declared.views.View.{View}
+use Rattle.rl_merge.proofs.Exchange.{put_other}
 use Rattle.rl_rule.specs.declared.views.Role.{Role}
 use Rattle.rl_rule.specs.declared.views.Role.TheVariants.{Root, Node, Spent}
-use Rattle.rl_rule.specs.Loads.{most_of_node, most_events}
+use Rattle.rl_rule.specs.Loads.{most_events}
 use Rattle.rl_rule.specs.Ruled.{IsFresh, IsWalk, IsKept, AreKept, Places, times, times_taken, Knows, IsRootAt, IsNodeAt}
 use Rattle.rl_rule.proofs.Lists.{at_within, same_at}
 use Rattle.rl_rule.proofs.Histories.{history_own, history_other, few_events}
 use Rattle.rl_rule.proofs.Known.{OwnersAreOne}
 
-pub put_same : {A : Type 0} (f : ℕ → A) (n : ℕ) (v : A) → put f n v n ≡ v
-put_same f n v = grind (arith, nat_tests)
-
-pub put_other : {A : Type 0} (f : ℕ → A) (n : ℕ) (v : A) (m : ℕ) → (m ≡ n → ⊥) → put f n v m ≡ f m
-put_other f n v m other = rw (ne_eqb m n other) refl
-
--- a line has at most 320 nodes, so a log has not too many events
+-- a line has few nodes, so a log has not too many events
 pub few_in_log : (tables : Tables) (log : List Event) (handed : ℕ) → IsLine tables → handed ≤ node_count (layout_of tables) → ((n : ℕ) → handed ≤ n →
-    history n log ≡ []) → ((n : ℕ) → length (history n log) ≤ most_of_node) → length log ≤ most_events
+    history n log ≡ []) → ((n : ℕ) → length (history n log) ≤ MAX_EVENTS) → length log ≤ most_events
 few_in_log tables log handed line few unborn short =
     let boxes : length tables.boxes ≤ 128 = line.few_boxes in
     let trains : length tables.trains ≤ 32 = line.few_trains in

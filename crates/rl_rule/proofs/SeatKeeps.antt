@@ -8,13 +8,14 @@ use mathlib.Core.Option.{some, some-injective, some-ne-none}
 use lib.ListN.{get_elem?}
 use Rattle.atomic_table.specs.Table.{Splits, Joins, opening}
 use Rattle.atomic_table.proofs.Lists.{at_set, set_here, set_else, at_longer, at_last}
+use Rattle.rl_base.specs.Tries.{AreFewTries}
 use Rattle.rl_base.specs.Layout.{word_count, node_count}
 use Rattle.rl_record.specs.declared.event.Event.{Event}
 use Rattle.rl_record.specs.Merge.{history}
 use Rattle.rl_tables.specs.declared.table.Tables.{Tables}
 use Rattle.rl_tables.specs.Kept.{IsLine}
 use Rattle.rl_tables.specs.Starts.{layout_of}
-use Rattle.rl_runs.specs.State.{put, start_words}
+use Rattle.rl_steps.specs.State.{put, start_words}
 use Rattle.rl_rule.specs.declared.views.Load.{Load}
 use Rattle.rl_rule.specs.declared.views.Kept.{Kept}
 use Rattle.rl_rule.specs.declared.views.View.{View}
@@ -23,7 +24,8 @@ use Rattle.rl_rule.specs.declared.views.Role.TheVariants.{Root, Node, Spent}
 use Rattle.rl_rule.specs.Views.{kept_of, root_view, grown, begun, taking, spent}
 use Rattle.rl_rule.specs.Ruled.{Places, times, times_taken, KnowsRoot, KnowsNode, Knows, IsNodeAt, IsRuled}
 use Rattle.rl_rule.proofs.Lists.{at_end, at_within, same_at}
-use Rattle.rl_rule.proofs.Others.{put_same, put_other, as_role, from_role, as_view, IsUnborn, unborn_is, live_not_taken}
+use Rattle.rl_merge.proofs.Exchange.{put_same, put_other}
+use Rattle.rl_rule.proofs.Others.{as_role, from_role, as_view, IsUnborn, unborn_is, live_not_taken}
 
 -- the start
 abbrev no_places : Places
@@ -39,7 +41,7 @@ start_knows tables tries zero view at =
     (record { first = refl; line = refl; tries_are = refl; handed = refl; kept = tt; taken = λ n. sym (nothing_taken n) })
 start_knows tables tries (suc seat) view at = absurd (some-ne-none view (sym at))
 
-pub start_keeps : (tables : Tables) (tries : ℕ) → IsLine tables → tries ≤ 1000 →
+pub start_keeps : (tables : Tables) (tries : ℕ) → IsLine tables → AreFewTries tries →
     IsRuled tables tries (opening (start_words tables (word_count (layout_of tables))) [] (root_view tables tries))
 start_keeps tables tries line few =
     record {

@@ -6,29 +6,31 @@ use mathlib.Core.Option.{some, none}
 use lib.ListN.{get_elem?}
 use Rattle.atomic_table.specs.Table.{State, step, Allows, keeps}
 use Rattle.atomic_table.proofs.Lists.{at_set}
+use Rattle.rl_base.specs.declared.limits.TheConstants.{MAX_EVENTS}
 use Rattle.rl_words.specs.Owner.{Owns}
 use Rattle.rl_words.specs.Stamps.{stamp_in, payload_in}
 use Rattle.rl_record.specs.declared.event.Event.{Event}
 use Rattle.rl_record.specs.Merge.{history}
 use Rattle.rl_tables.specs.declared.table.Tables.{Tables}
 use Rattle.rl_tables.specs.Starts.{layout_of}
-use Rattle.rl_runs.specs.declared.mind.Mind.{Mind}
-use Rattle.rl_runs.specs.Run.{Fits, state}
-use Rattle.rl_runs.specs.Step.{node_step}
-use Rattle.rl_runs.specs.State.{CoreState, next_stamp, event_at, mind_after}
-use Rattle.rl_runs.specs.Sound.{IsSound}
+use Rattle.rl_steps.specs.declared.mind.Mind.{Mind}
+use Rattle.rl_steps.specs.Run.{Fits, state}
+use Rattle.rl_steps.specs.Step.{node_step}
+use Rattle.rl_steps.specs.State.{CoreState, next_stamp, event_at, mind_after}
+use Rattle.rl_steps.specs.Sound.{IsSound}
 use Rattle.rl_rule.specs.declared.views.Load.{Load}
 use Rattle.rl_rule.specs.declared.views.Walk.{Walk}
 use Rattle.rl_rule.specs.declared.views.View.{View}
 use Rattle.rl_rule.specs.declared.views.Role.TheVariants.{Node}
 use Rattle.rl_rule.specs.Views.{event_by}
 use Rattle.rl_rule.specs.Views as views
-use Rattle.rl_rule.specs.Loads.{most_of_node, most_events}
+use Rattle.rl_rule.specs.Loads.{most_events}
 use Rattle.rl_rule.specs.Plays.{Sat, IsStep, steps}
 use Rattle.rl_rule.specs.Ruled.{IsWalk, Places, KnowsNode, IsRuled}
 use Rattle.rl_rule.proofs.Known.{Laws}
 use Rattle.rl_rule.proofs.Histories.{history_own, history_other}
-use Rattle.rl_rule.proofs.Others.{put_same, few_in_log, as_role, from_role, as_view, root_kept, node_kept, other_knows}
+use Rattle.rl_merge.proofs.Exchange.{put_same}
+use Rattle.rl_rule.proofs.Others.{few_in_log, as_role, from_role, as_view, root_kept, node_kept, other_knows}
 
 -- the step fits the state
 fits_state : (tables : Tables) (c : CoreState) (n w was payload clock : ℕ) (mind : Mind) → slice_get c.words w ≡ Some was →
@@ -136,8 +138,8 @@ tells slots me load payload new mind is few other payload2 mind2 also =
           (subst (λ (p : ℕ). (event_by me.0.walk load p).stamp ≤ most_events) one.payloads_are few),
     )
 
-short_after : (log : List Event) (e : Event) (n : ℕ) (mine : List Event) → mine ≡ history e.node.0 log → length mine < most_of_node → ((m : ℕ) →
-    length (history m log) ≤ most_of_node) → length (history n (e ∷ log)) ≤ most_of_node
+short_after : (log : List Event) (e : Event) (n : ℕ) (mine : List Event) → mine ≡ history e.node.0 log → length mine < MAX_EVENTS → ((m : ℕ) →
+    length (history m log) ≤ MAX_EVENTS) → length (history n (e ∷ log)) ≤ MAX_EVENTS
 short_after log e n mine is room short =
     elim (cases_eq e.node.0 n) [
       | inl same ↦
@@ -148,7 +150,7 @@ short_after log e n mine is room short =
     ]
 
 pub step_keeps : Laws → (tables : Tables) (tries slots id new : ℕ) (me : Sat) (load : Load) (payload : ℕ) (mind : Mind) → me.0.role ≡ Node →
-    IsStep me.0.line me.0.walk load payload mind → length me.0.walk.history < most_of_node → new ≡ (event_by me.0.walk load payload).now →
+    IsStep me.0.line me.0.walk load payload mind → length me.0.walk.history < MAX_EVENTS → new ≡ (event_by me.0.walk load payload).now →
     Allows (IsRuled tables tries) slots id me load.word.0 (λ _. new) (λ _. steps (step slots load.word.0 new 0 none) me new)
 step_keeps laws tables tries slots id new me load payload mind role is room now s ruled homes there small =
     let e : Event = event_by me.0.walk load payload in
@@ -158,7 +160,7 @@ step_keeps laws tables tries slots id new me load payload mind role is room now 
     let move : IsMove tables tries ruled.log me.0.walk load payload mind = is_move laws tables tries s ruled id me.0 load payload mind knows is in
     let after : KnowsNode tables tries (e ∷ ruled.log) ruled.places id view =
     node_after tables tries ruled.log ruled.places id me.0 load payload mind move knows in
-    let short : (n : ℕ) → length (history n (e ∷ ruled.log)) ≤ most_of_node =
+    let short : (n : ℕ) → length (history n (e ∷ ruled.log)) ≤ MAX_EVENTS =
     λ n. short_after ruled.log e n me.0.walk.history knows.walk.history room ruled.short in
     let unborn : (n : ℕ) → ruled.places.handed ≤ n
     → history n (e ∷ ruled.log) ≡ [] = λ n past. history_other n e ruled.log (λ same. omega (arith, knows.handed)) ∙ ruled.unborn n past in

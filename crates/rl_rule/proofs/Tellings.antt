@@ -2,6 +2,8 @@
 use Rattle.std.proofs.Common.{◌≡◌, ℕ, suc, ◌+◌, ◌*◌, ◌/◌, ◌%◌, ◌^◌, ◌<◌, ◌≤◌, List, [], ◌∷◌, length, slice_get, slice_set, Some}
 use Rattle.std.proofs.Common.{refl, sym, ◌∙◌, inl, inr, arith}
 use Rattle.std.proofs.lemmas.Bool.{cases_eq}
+use Rattle.rl_base.specs.Numbers.{IsU32}
+use Rattle.rl_base.specs.Tries.{AreFewTries}
 use Rattle.rl_words.specs.Owner.{Owns}
 use Rattle.rl_words.specs.Stamps.{stamp_in, payload_in, stamped}
 use Rattle.rl_record.specs.declared.event.Event.{Event}
@@ -9,16 +11,16 @@ use Rattle.rl_record.specs.Merge.{history}
 use Rattle.rl_tables.specs.declared.table.Tables.{Tables}
 use Rattle.rl_tables.specs.Kept.{IsLine}
 use Rattle.rl_tables.specs.Starts.{layout_of}
-use Rattle.rl_runs.specs.Run.{IsRun, state}
-use Rattle.rl_runs.specs.State.{next_stamp}
-use Rattle.rl_runs.specs.Sound.{IsSound}
-use Rattle.rl_runs.proofs.Made.{IsMade, fits_made}
-use Rattle.rl_runs.proofs.Options.{same_some, get_set_same, get_set_other}
+use Rattle.rl_steps.specs.Run.{IsRun, state}
+use Rattle.rl_steps.specs.State.{next_stamp}
+use Rattle.rl_steps.specs.Sound.{IsSound}
+use Rattle.rl_steps.proofs.Made.{IsMade, fits_made}
+use Rattle.rl_steps.proofs.Options.{same_some, get_set_same, get_set_other}
 use Rattle.rl_rule.specs.Loads.{last_on}
 use Rattle.rl_rule.proofs.Histories.{history_own, history_other, last_here, last_there}
 use Rattle.rl_rule.proofs.Known.{Laws}
 
-stamp_of_stamped : (stamp payload : ℕ) → stamp < 2 ^ 32 → payload < 2 ^ 32 → stamp_in (stamped stamp payload) ≡ stamp
+stamp_of_stamped : (stamp payload : ℕ) → IsU32 stamp → IsU32 payload → stamp_in (stamped stamp payload) ≡ stamp
 stamp_of_stamped stamp payload s p =
     let quotient : (payload + stamp * 2 ^ 32) / 2 ^ 32 ≡ stamp = omega arith in
     let rest : stamp % 2 ^ 32 ≡ stamp = omega arith in
@@ -30,7 +32,7 @@ pub record IsStamped (k : ℕ) (e : Event) : Type 0 where
   pub above : stamp_in e.was < e.stamp
   pub most : e.stamp ≤ suc k
 
-pub event_owned : Laws → (tables : Tables) (tries : ℕ) (e : Event) (log : List Event) → IsLine tables → tries ≤ 1000 → suc (length log) < 2 ^ 32 →
+pub event_owned : Laws → (tables : Tables) (tries : ℕ) (e : Event) (log : List Event) → IsLine tables → AreFewTries tries → IsU32 (suc (length log)) →
     IsRun tables tries (e ∷ log) → Owns (layout_of tables) e.word.0 (payload_in e.was) e.node.0
 event_owned laws tables tries e log line few room run =
     let sound : IsSound tables (length log) (state tables tries log) = laws.runs tables tries log line few (omega arith) run.0 in
@@ -38,7 +40,7 @@ event_owned laws tables tries e log line few room run =
     (laws.steps tables e.node.0 e.word.0 (payload_in e.was) made.made.0 ((state tables tries log).minds e.node.0) made.made.1 line
     (sound.minds e.node.0) made.step).0
 
-pub event_stamped : Laws → (tables : Tables) (tries : ℕ) (e : Event) (log : List Event) → IsLine tables → tries ≤ 1000 → suc (length log) < 2 ^ 32 →
+pub event_stamped : Laws → (tables : Tables) (tries : ℕ) (e : Event) (log : List Event) → IsLine tables → AreFewTries tries → IsU32 (suc (length log)) →
     IsRun tables tries (e ∷ log) → IsStamped (length log) e
 event_stamped laws tables tries e log line few room run =
     let sound : IsSound tables (length log) (state tables tries log) = laws.runs tables tries log line few (omega arith) run.0 in
@@ -65,7 +67,7 @@ earlier_event e f v is now above before =
     let here : stamp_in v ≡ f.stamp = rw is now in
     record { later = omega arith; same = λ equal. absurd (omega arith) }
 
-pub told : Laws → (tables : Tables) (tries : ℕ) (log : List Event) (n w v : ℕ) (e : Event) → IsLine tables → tries ≤ 1000 → length log < 2 ^ 32 →
+pub told : Laws → (tables : Tables) (tries : ℕ) (log : List Event) (n w v : ℕ) (e : Event) → IsLine tables → AreFewTries tries → IsU32 (length log) →
     IsRun tables tries log → slice_get (state tables tries log).words w ≡ Some v → last_on w (history n log) ≡ Some e → IsLater e v
 told laws tables tries [] n w v e line few room run word last = absurd (cc)
 told laws tables tries (f ∷ log) n w v e line few room run word last =

@@ -1,23 +1,24 @@
 -- What a load tells a node of the word, beside its value.
-use Rattle.std.specs.Prelude.{◌≡◌, ℕ, ◌≤◌, ◌==◌, List, find, Option, Some}
+use Rattle.std.specs.Prelude.{◌≡◌, ℕ, ◌+◌, ◌*◌, ◌≤◌, ◌==◌, List, find, Option, Some}
 use Rattle.std.specs.Option.{option_map_or}
+use Rattle.rl_base.specs.declared.limits.TheConstants.{MAX_BOXES, MAX_TRAINS, MAX_EVENTS}
 use Rattle.rl_words.specs.Owner.{Owns}
 use Rattle.rl_words.specs.Stamps.{stamp_in}
 use Rattle.rl_record.specs.declared.event.Event.{Event}
 use Rattle.rl_tables.specs.declared.table.Tables.{Tables}
 use Rattle.rl_tables.specs.Starts.{layout_of}
-use Rattle.rl_runs.specs.State.{start_word}
+use Rattle.rl_steps.specs.State.{start_word}
 
 -- the last event of the history, which is newest first, on word w
 abbrev pub last_on : ℕ → List Event → Option Event
 last_on w history = find (λ e. e.word.0 == w) history
 
--- at most 320 nodes with at most 1,048,576 events each
-abbrev pub most_of_node : ℕ
-most_of_node = 1048576
+-- the most nodes of a line, and the most events that all of them make
+abbrev pub most_nodes : ℕ
+most_nodes = 2 * (MAX_TRAINS + MAX_BOXES)
 
 abbrev pub most_events : ℕ
-most_events = 335544320
+most_events = most_nodes * MAX_EVENTS
 
 -- the word's stamp is at least that of the node's last event on it, and where the two are equal its value is the one
 -- that this event wrote. The stamp leaves room for one more

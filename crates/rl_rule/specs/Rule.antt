@@ -1,22 +1,22 @@
 -- The rule of the rails as it reads from the words and the views alone, in five parts: places, histories, chains, fresh
 -- loads and bounds. Histories are newest first.
-use Rattle.std.specs.Prelude.{◌≡◌, ℕ, ◌<◌, ◌≤◌, List, [], ◌∷◌, length, slice_get, Option, Some, None}
+use Rattle.std.specs.Prelude.{◌≡◌, ℕ, ◌<◌, ◌≤◌, List, [], ◌∷◌, length, slice_get, Contains, Option, Some, None}
 use mathlib.Core.Option.{some}
 use lib.ListN.{get_elem?}
+use Rattle.rl_base.specs.declared.limits.TheConstants.{MAX_EVENTS}
 use Rattle.rl_base.specs.Layout.{node_count, word_count}
 use Rattle.rl_words.specs.Owner.{Owns}
 use Rattle.rl_words.specs.Stamps.{payload_in}
 use Rattle.rl_record.specs.declared.event.Event.{Event}
 use Rattle.rl_tables.specs.declared.table.Tables.{Tables}
 use Rattle.rl_tables.specs.Starts.{layout_of}
-use Rattle.rl_runs.specs.State.{start_word}
+use Rattle.rl_merge.specs.Chains.{mind_left, clock_left, AreChained, AreLeft}
 use Rattle.rl_rule.specs.declared.views.Load.{Load}
 use Rattle.rl_rule.specs.declared.views.Kept.{Kept}
 use Rattle.rl_rule.specs.declared.views.Role.TheVariants.{Root, Node}
 use Rattle.rl_rule.specs.declared.views.View.{View}
-use Rattle.rl_rule.specs.Loads.{most_of_node}
 use Rattle.rl_rule.specs.Ruled.{times, IsNodeAt}
-use Rattle.rl_rule.specs.Histories.{clock_after, mind_after, IsHistory, IsNodeChain, IsOneOf, sum_below}
+use Rattle.rl_rule.specs.Histories.{IsHistory, sum_below}
 
 -- the list of the rails has the node, once
 pub record IsTakenIn (views : List View) (n : ℕ) : Type 0 where
@@ -44,48 +44,22 @@ pub record KeepsHistories (histories : ℕ → List Event) (views : List View) :
   pub nodes : (seat : ℕ) (view : View) → get_elem? views seat ≡ some view → view.role ≡ Node
       → view.walk.history ≡ histories view.walk.node.0
   pub clocks : (seat : ℕ) (view : View) → get_elem? views seat ≡ some view → view.role ≡ Node
-      → view.walk.clock ≡ clock_after view.walk.history
+      → view.walk.clock ≡ clock_left view.walk.history
 
--- an event of the histories on word w
-pub record IsOn (histories : ℕ → List Event) (w : ℕ) (e : Event) : Type 0 where
-  pub node : ℕ
-  pub among : IsOneOf e (histories node)
-  pub word : e.word.0 ≡ w
-
--- the event on word w with the greatest stamp below the bound
-pub record IsLastBelow (histories : ℕ → List Event) (w bound : ℕ) (e : Event) : Type 0 where
-  pub on : IsOn histories w e
-  pub below : e.stamp < bound
-  pub last : (f : Event) → IsOn histories w f → f.stamp < bound → f.stamp ≤ e.stamp
-
--- the value is the one that this event wrote, or that of the start where there is no such event
-pub data ComesFrom (tables : Tables) (histories : ℕ → List Event) (w bound value : ℕ) : Type 0 where
-  written : (e : Event) → IsLastBelow histories w bound e → value ≡ e.now → ComesFrom tables histories w bound value
-  begun : ((e : Event) → IsOn histories w e → bound ≤ e.stamp) → value ≡ start_word tables w
-      → ComesFrom tables histories w bound value
-
--- the chain of a word: its events have different stamps, each found what the one before it wrote, and the word now
--- has what the last one wrote
-pub record IsWordChain (tables : Tables) (histories : ℕ → List Event) (words : List ℕ) (w : ℕ) : Type 0 where
-  pub apart : (e f : Event) → IsOn histories w e → IsOn histories w f → e.stamp ≡ f.stamp → e ≡ f
-  pub old : (e : Event) → IsOn histories w e → ComesFrom tables histories w e.stamp e.was
-  pub bound : ℕ
-  pub highest : (e : Event) → IsOn histories w e → e.stamp < bound
-  pub now : (value : ℕ) → slice_get words w ≡ Some value → ComesFrom tables histories w bound value
-
--- chains: by node, by word, and the minds that are known are those after the last event
+-- chains: each event is the step of its node and found what the one before it on its word left; the words are those
+-- that the chains leave, and so are the minds that are known
 pub record KeepsChains (tables : Tables) (tries : ℕ) (histories : ℕ → List Event) (words : List ℕ) (views : List View)
     : Type 0 where
-  pub nodes : (n : ℕ) → IsNodeChain tables tries n (histories n)
-  pub minds : (seat : ℕ) (view : View) → get_elem? views seat ≡ some view → view.role ≡ Node
-      → view.walk.mind ≡ mind_after tables tries view.walk.node.0 view.walk.history
+  pub chained : AreChained tables tries histories
+  pub left : AreLeft tables tries histories words (λ n. mind_left tables tries n (histories n))
   pub size : length words ≡ word_count (layout_of tables)
-  pub words_are : (w : ℕ) → IsWordChain tables histories words w
+  pub minds : (seat : ℕ) (view : View) → get_elem? views seat ≡ some view → view.role ≡ Node
+      → view.walk.mind ≡ mind_left tables tries view.walk.node.0 view.walk.history
 
 -- what is kept of a node whose seat was taken in is its history, and the mind after it
 abbrev pub IsKeptOf : Tables → ℕ → (ℕ → List Event) → Kept → Type 0
 IsKeptOf tables tries histories kept =
-    (kept.history ≡ histories kept.node.0) × (kept.mind ≡ mind_after tables tries kept.node.0 kept.history)
+    (kept.history ≡ histories kept.node.0) × (kept.mind ≡ mind_left tables tries kept.node.0 kept.history)
 
 abbrev pub EachKept : Tables → ℕ → (ℕ → List Event) → List Kept → Type 0
 EachKept tables tries histories [] = Unit {0}
@@ -102,8 +76,8 @@ KeepsLoads tables words views =
 -- bounds: no history is too long, and no stamp is greater than the number of events of all nodes
 pub record KeepsBounds (tables : Tables) (handed : ℕ) (histories : ℕ → List Event) : Type 0 where
   pub handed_few : handed ≤ node_count (layout_of tables)
-  pub short : (n : ℕ) → length (histories n) ≤ most_of_node
-  pub stamps : (n : ℕ) (e : Event) → IsOneOf e (histories n) → e.stamp ≤ sum_below handed (λ m. length (histories m))
+  pub short : (n : ℕ) → length (histories n) ≤ MAX_EVENTS
+  pub stamps : (n : ℕ) (e : Event) → Contains (histories n) e → e.stamp ≤ sum_below handed (λ m. length (histories m))
 
 pub record Rule (tables : Tables) (tries : ℕ) (words : List ℕ) (views : List View) : Type 0 where
   pub handed : ℕ

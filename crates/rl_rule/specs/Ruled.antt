@@ -5,6 +5,8 @@ use Rattle.std.specs.Prelude.{length, filter, slice_get, Some, if◌then◌else�
 use mathlib.Core.Option.{some}
 use lib.ListN.{get_elem?}
 use Rattle.atomic_table.specs.Table.{State}
+use Rattle.rl_base.specs.declared.limits.TheConstants.{MAX_EVENTS}
+use Rattle.rl_base.specs.Tries.{AreFewTries}
 use Rattle.rl_base.specs.Layout.{node_count, word_count}
 use Rattle.rl_words.specs.Owner.{Owns}
 use Rattle.rl_words.specs.Stamps.{payload_in}
@@ -13,14 +15,13 @@ use Rattle.rl_record.specs.Merge.{history}
 use Rattle.rl_tables.specs.declared.table.Tables.{Tables}
 use Rattle.rl_tables.specs.Kept.{IsLine}
 use Rattle.rl_tables.specs.Starts.{layout_of}
-use Rattle.rl_runs.specs.Run.{IsRun, state}
+use Rattle.rl_steps.specs.Run.{IsRun, state}
 use Rattle.rl_rule.specs.declared.views.Load.{Load}
 use Rattle.rl_rule.specs.declared.views.Walk.{Walk}
 use Rattle.rl_rule.specs.declared.views.Kept.{Kept}
 use Rattle.rl_rule.specs.declared.views.Role.{Role}
 use Rattle.rl_rule.specs.declared.views.Role.TheVariants.{Root, Node, Spent}
 use Rattle.rl_rule.specs.declared.views.View.{View}
-use Rattle.rl_rule.specs.Loads.{most_of_node}
 
 -- a word that the node loaded at a value that it owns still has that value
 pub record IsFresh (tables : Tables) (words : List ℕ) (n : ℕ) (load : Load) : Type 0 where
@@ -94,14 +95,14 @@ pub record IsNodeAt (views : List View) (seat n : ℕ) : Type 0 where
 
 pub record IsRuled (tables : Tables) (tries : ℕ) (s : State (Unit {0}) View) : Type 0 where
   pub line : IsLine tables
-  pub few_tries : tries ≤ 1000
+  pub few_tries : AreFewTries tries
   pub log : List Event
   pub run : IsRun tables tries log
   pub words : s.words ≡ (state tables tries log).words
   pub places : Places
   pub few : places.handed ≤ node_count (layout_of tables)
   pub unborn : (n : ℕ) → places.handed ≤ n → history n log ≡ []
-  pub short : (n : ℕ) → length (history n log) ≤ most_of_node
+  pub short : (n : ℕ) → length (history n log) ≤ MAX_EVENTS
   pub root : IsRootAt s.views 0
   pub nodes : (n : ℕ) → n < places.handed → places.place n ≢ 0 → IsNodeAt s.views (places.place n) n
   pub each : (seat : ℕ) (view : View) → get_elem? s.views seat ≡ some view

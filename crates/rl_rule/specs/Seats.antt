@@ -11,11 +11,11 @@ use Rattle.rl_rule.specs.declared.rails.Rails.{Rails}
 abbrev pub rails_id : Rails → TableId
 rails_id rails = rails.table.shared.table_id
 
-abbrev pub line_of : Rails → Tables
-line_of rails = rails.root.me.0.line
+abbrev pub rails_line : Rails → Tables
+rails_line rails = rails.root.me.0.line
 
-abbrev pub tries_of : Rails → ℕ
-tries_of rails = rails.root.me.0.tries
+abbrev pub rails_tries : Rails → ℕ
+rails_tries rails = rails.root.me.0.tries
 
 -- how many nodes were handed a seat, and what is kept of those that were taken in, the last one first
 abbrev pub handed : Rails → ℕ
@@ -26,8 +26,8 @@ taken rails = rails.root.me.0.taken
 
 pub record IsSameRails (old new : Rails) : Type 0 where
   pub id : rails_id new ≡ rails_id old
-  pub line : line_of new ≡ line_of old
-  pub tries : tries_of new ≡ tries_of old
+  pub line : rails_line new ≡ rails_line old
+  pub tries : rails_tries new ≡ rails_tries old
 
 -- whose seat it is, its line, and what its node knows
 abbrev pub seat_id : NodeSeat → TableId

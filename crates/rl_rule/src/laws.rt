@@ -12,8 +12,8 @@ ghost use Rattle.rl_rule.specs.Ruled.{IsRuled};
 ghost use Rattle.rl_rule.specs.Rule.{Rule};
 
 use rl_base::numberings;
-use rl_runs::{sound_runs, steps_of_owners};
-use rl_words::one_owner;
+use rl_merge::chains_of_runs;
+use rl_steps::sound_runs;
 
 /// Where all that the threads did is one run, the rule of the rails holds: places, histories, chains, fresh loads and
 /// bounds. The table keeps the first between any two atomic steps, so the second holds between any two as well.
@@ -21,10 +21,9 @@ pub fn rule_of_rails()
     ensures { (tables : Tables) (tries : ℕ) (s : State (Unit {0}) View) → IsRuled tables tries s
         → Rule tables tries s.words s.views }
 {
-    // What the rule uses of the protocol, for the proof.
+    // What is so after every run, and of its chains, for the proof.
     sound_runs();
-    steps_of_owners();
-    one_owner();
+    chains_of_runs();
 }
 
 /// Nobody but the box may ever change its reservations, so a load of them gives what the box wrote last.

@@ -11,9 +11,9 @@ use crate::seats::{NodeSeat, next_stamp};
 use crate::views::Load;
 use atomic_table::{Closed, Table};
 use rl_base::{NoMemory, NodeNo, Sequence, WordNo};
-use rl_lamport::merged_runs;
+use rl_merge::merged_runs;
 use rl_record::Event;
-use rl_runs::{Mind, sound_runs, start_words, steps_of_owners};
+use rl_steps::{Mind, sound_runs, start_words, steps_of_owners};
 use rl_tables::Line;
 use rl_words::{one_owner, word_of};
 use std::alloc::Global;
@@ -42,22 +42,24 @@ impl Rails {
     ghost use Rattle.std.specs.Prelude.{◌≡◌, ◌≤◌, ◌<◌, ◌+◌, [], List, ◌∷◌, length, Some, IfOk};
     ghost use Rattle.rl_record.specs.declared.event.Event.{Event};
     ghost use Rattle.rl_record.specs.Merge.{IsMerge};
+    ghost use Rattle.rl_base.specs.declared.limits.TheConstants.{MAX_EVENTS};
     ghost use Rattle.rl_base.specs.Layout.{node_count, word_count};
+    ghost use Rattle.rl_base.specs.Tries.{AreFewTries};
     ghost use Rattle.rl_tables.specs.Kept.{IsLine};
     ghost use Rattle.rl_tables.specs.Starts.{layout_of};
     ghost use Rattle.rl_rule.specs.declared.views.Load.{Load};
     ghost use Rattle.rl_rule.specs.Views.{start_walk, loaded, event_by, stepped, kept_of};
-    ghost use Rattle.rl_rule.specs.Loads.{Tells, IsAlone, last_value, most_of_node};
+    ghost use Rattle.rl_rule.specs.Loads.{Tells, IsAlone, last_value};
     ghost use Rattle.rl_rule.specs.Plays.{IsStep};
     ghost use Rattle.rl_rule.specs.Closing.{kept_history, IsReplay};
-    ghost use Rattle.rl_rule.specs.Seats.{rails_id, line_of, tries_of, handed, taken, IsSameRails};
+    ghost use Rattle.rl_rule.specs.Seats.{rails_id, rails_line, rails_tries, handed, taken, IsSameRails};
     ghost use Rattle.rl_rule.specs.Seats.{seat_id, seat_line, walk_of};
 
     /// The words at the start, in one table. The room for the closing words is taken here.
     pub fn lay(alloc: Global, line: &Line, tries: u32) -> Result<Rails, NoMemory>
-        requires few_tries { tries ≤ 1000 }
-        ensures line { IfOk result (λ rails. line_of rails ≡ line.now) }
-        ensures tries { IfOk result (λ rails. tries_of rails ≡ tries) }
+        requires few_tries { AreFewTries tries }
+        ensures line { IfOk result (λ rails. rails_line rails ≡ line.now) }
+        ensures tries { IfOk result (λ rails. rails_tries rails ≡ tries) }
         ensures handed { IfOk result (λ rails. handed rails ≡ 0) }
         ensures taken { IfOk result (λ rails. taken rails ≡ []) }
     {
@@ -75,13 +77,13 @@ impl Rails {
     /// load of the still word.
     pub fn seat(&mut self, node: NodeNo) -> NodeSeat
         requires next { node.0 ≡ handed self.old }
-        requires there { node.0 < node_count (layout_of (line_of self.old)) }
+        requires there { node.0 < node_count (layout_of (rails_line self.old)) }
         ensures rails { IsSameRails self.old self.new }
         ensures handed { handed self.new ≡ handed self.old + 1 }
         ensures taken { taken self.new ≡ taken self.old }
         ensures own { seat_id result ≡ rails_id self.old }
-        ensures line { seat_line result ≡ line_of self.old }
-        ensures walk { walk_of result ≡ start_walk (line_of self.old) (tries_of self.old) node.0 }
+        ensures line { seat_line result ≡ rails_line self.old }
+        ensures walk { walk_of result ≡ start_walk (rails_line self.old) (rails_tries self.old) node.0 }
     {
         let table = &self.table;
         let seat = table.shared.split_seat::<Hands>(&mut self.root);
@@ -96,7 +98,7 @@ impl Rails {
     /// The whole word as it stands: one atomic load, which never waits.
     pub fn load(&self, seat: &mut NodeSeat, w: WordNo) -> u64
         requires own { seat_id seat.old ≡ rails_id self.now }
-        requires there { w.0 < word_count (layout_of (line_of self.now)) }
+        requires there { w.0 < word_count (layout_of (rails_line self.now)) }
         ensures own { seat_id seat.new ≡ seat_id seat.old }
         ensures line { seat_line seat.new ≡ seat_line seat.old }
         ensures walk { walk_of seat.new ≡ loaded (walk_of seat.old) w.0 result }
@@ -120,7 +122,7 @@ impl Rails {
     pub fn step(&self, seat: &mut NodeSeat, now: u32, mind: Mind) -> Event
         requires own { seat_id seat.old ≡ rails_id self.now }
         requires step { (load : Load) × IsStep (seat_line seat.old) (walk_of seat.old) load now mind }
-        requires room { length (walk_of seat.old).history < most_of_node }
+        requires room { length (walk_of seat.old).history < MAX_EVENTS }
         ensures own { seat_id seat.new ≡ seat_id seat.old }
         ensures line { seat_line seat.new ≡ seat_line seat.old }
         ensures event { (load : Load) → (walk_of seat.old).load ≡ Some load
@@ -171,23 +173,23 @@ impl Rails {
     /// within their limits, as they were when the words were laid.
     pub fn close(self) -> Words
         requires { length (taken self) ≡ handed self }
-        ensures line { IsLine (line_of self) }
-        ensures tries { tries_of self ≤ 1000 }
-        ensures run { (log : List Event) × IsReplay (line_of self) (tries_of self) (taken self) result log }
+        ensures line { IsLine (rails_line self) }
+        ensures tries { AreFewTries (rails_tries self) }
+        ensures run { (log : List Event) × IsReplay (rails_line self) (rails_tries self) (taken self) result log }
         ensures merge { (merged : List Event) → IsMerge (kept_history (taken self)) merged
-            → IsReplay (line_of self) (tries_of self) (taken self) result merged }
+            → IsReplay (rails_line self) (rails_tries self) (taken self) result merged }
     {
         merged_runs();
         let Rails { table, root, room } = self;
         let closed = table.close_with(root);
-        let words = words_of(&closed, room);
+        let words = closed_words(&closed, room);
         closed.free();
         Words::from_vec(words)
     }
 }
 
 /// The words of a closed table, in a vector that has room for them.
-fn words_of(closed: &Closed<(), Global>, room: Vec<u64>) -> Vec<u64>
+fn closed_words(closed: &Closed<(), Global>, room: Vec<u64>) -> Vec<u64>
     requires full { IsFull closed.now.words }
     requires empty { room.items ≡ [] }
     requires has_room { slots_len closed.now.words ≤ vec_capacity room }

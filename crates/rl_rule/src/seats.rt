@@ -1,6 +1,6 @@
 ghost use Rattle.std.specs.Prelude.{◌≡◌, ◌≤◌, ◌<◌, [], Some};
 ghost use Rattle.rl_words.specs.Stamps.{stamp_in};
-ghost use Rattle.rl_runs.specs.State.{next_stamp};
+ghost use Rattle.rl_steps.specs.State.{next_stamp};
 ghost use Rattle.rl_rule.specs.declared.views.Load.{Load};
 ghost use Rattle.rl_rule.specs.declared.views.Role.TheVariants.{Node};
 ghost use Rattle.rl_rule.specs.Loads.{most_events};

@@ -1,6 +1,6 @@
 use rl_base::{NodeNo, WordNo};
 use rl_record::Event;
-use rl_runs::Mind;
+use rl_steps::Mind;
 use rl_tables::Line;
 use std::collections::LinkedList;
 

@@ -1,9 +1,10 @@
 -- What turns make of a node.
-use Rattle.std.specs.Prelude.{◌≡◌, ℕ, ◌+◌, ◌-◌, ◌^◌, ◌<◌, min, max, List, length, slice_index_or}
+use Rattle.std.specs.Prelude.{◌≡◌, ℕ, ◌+◌, ◌<◌, min, max, List, length, slice_index_or}
+use Rattle.rl_base.specs.Numbers.{greatest_u64}
 
 -- the count after so many turns more. It stands still at the last number of 64 bits
 abbrev pub raised : ℕ → ℕ → ℕ
-raised turns more = max turns (min (turns + more) (2 ^ 64 - 1))
+raised turns more = max turns (min (turns + more) greatest_u64)
 
 -- the node after so many turns
 pub record HasTurned {T : Type 0} (number turns : T → ℕ) (home : T → T → Type 0) (times : ℕ) (old new : T)

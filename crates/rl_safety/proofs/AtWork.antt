@@ -13,7 +13,6 @@ use Rattle.rl_record.specs.declared.event.Event.{Event}
 use Rattle.rl_record.specs.declared.event.Turn.TheVariants.{Moved}
 use Rattle.rl_words.specs.Stamps.{payload_in}
 use Rattle.rl_words.specs.Word.{Word, PackedStep, kind_of, packed_word}
-use Rattle.rl_words.specs.Word.Word.{Resv, Lock, Mail, Run, Sense}
 use Rattle.rl_tables.specs.declared.table.BoxTable.{BoxTable}
 use Rattle.rl_tables.specs.declared.table.Tables.{Tables}
 use Rattle.rl_tables.specs.Kept.{IsLine}
@@ -23,24 +22,23 @@ use Rattle.rl_box.specs.declared.mind.Work.{Work}
 use Rattle.rl_box.specs.declared.mind.Work.TheVariants.{Ready, Serve, Say}
 use Rattle.rl_box.specs.Mind.{IsBoxMind}
 use Rattle.rl_box.specs.Steps.{BoxStep, box_step, box_target, verb_target, work_target}
-use Rattle.rl_runs.specs.declared.mind.Mind.{Mind}
-use Rattle.rl_runs.specs.declared.mind.Mind.TheVariants.{Train, Track, Box, Machine}
-use Rattle.rl_runs.specs.Numbers.{node_at, word_at}
-use Rattle.rl_runs.specs.Sound.{IsMindOf}
-use Rattle.rl_runs.specs.State.{CoreState, event_at, next_stamp}
-use Rattle.rl_runs.specs.Step.{node_step, target_of, as_mind, has_nothing, is_ready}
-use Rattle.rl_runs.specs.Turn.{Drive, answer_of_target, target_in}
-use Rattle.rl_runs.proofs.Acts.{box_target_there}
-use Rattle.rl_runs.proofs.ByKind.{box_step_at, box_target_at}
-use Rattle.rl_runs.proofs.Numbering.{node_at-some, word_at-number}
-use Rattle.rl_runs.proofs.Sounding.{AreMinded}
+use Rattle.rl_steps.specs.declared.mind.Mind.{Mind}
+use Rattle.rl_steps.specs.declared.mind.Mind.TheVariants.{Train, Track, Box, Machine}
+use Rattle.rl_steps.specs.Numbers.{node_at, word_at}
+use Rattle.rl_steps.specs.Sound.{IsMindOf}
+use Rattle.rl_steps.specs.State.{CoreState, event_at, next_stamp}
+use Rattle.rl_steps.specs.Step.{node_step, target_of, as_mind, has_nothing, is_ready}
+use Rattle.rl_steps.specs.Turn.{Drive, answer_of_target, target_in}
+use Rattle.rl_steps.proofs.FromCalls.{box_target_there}
+use Rattle.rl_steps.proofs.ByKind.{box_step_at, box_target_at}
+use Rattle.rl_steps.proofs.Numbering.{node_at-some, word_at-number}
+use Rattle.rl_steps.proofs.Sounding.{AreMinded}
 use Rattle.rl_protocol.specs.Agreement.{Agrees}
 use Rattle.rl_protocol.specs.AtWork.{word_for, word_at_work}
-use Rattle.rl_protocol.specs.Sentences.{HasWord as HasValue, HasLine}
+use Rattle.rl_protocol.specs.Sentences.{StateSays, HasLine}
 use Rattle.rl_protocol.specs.State.{State}
 use Rattle.rl_protocol.specs.TableLine.{line_of}
 use Rattle.rl_protocol.proofs.Moved.{item_there}
-use Rattle.rl_safety.specs.Labels.{Says}
 use Rattle.rl_safety.specs.Readable.{AreReadable}
 use Rattle.rl_safety.specs.Reading.{read, payload_of}
 use Rattle.rl_safety.proofs.Events.{ReadsWords, says_read, box_here}
@@ -53,14 +51,7 @@ pub record WorkLaws : Type 0 where
   pub lines : (x : BoxTable) (mind : BoxMind) (kind : WordKind) (payload new : ℕ) (after : BoxMind)
       → (box_step x mind kind payload ≡ Some (new, after)) ↔ PackedStep (BoxStep x mind) kind payload new after
   pub at_work : (tables : Tables) (tries : ℕ) (s : State) (b : ℕ) (x : BoxTable) (w : Word) → IsLine tables → Agrees (line_of tables) tries s
-      → slice_get tables.boxes b ≡ Some x → word_at_work b (s.boxes b).work ≡ Some (kind_of w) → HasValue s w → HasLine x (s.boxes b) w
-
-says_value : (s : State) (w : Word) → Says s w → HasValue s w
-says_value s (Resv b v) says = says
-says_value s (Lock b v) says = says
-says_value s (Mail t v) says = says
-says_value s (Run t v) says = says
-says_value s (Sense t v) says = says
+      → slice_get tables.boxes b ≡ Some x → word_at_work b (s.boxes b).work ≡ Some (kind_of w) → StateSays s w → HasLine x (s.boxes b) w
 
 -- the word at which a box at work looks, and that it isn't the still word
 verb_word : (x : BoxTable) (b : BoxId) (verb : Verb) → x.number ≡ b → (word_for b.0 verb ≡ verb_target x verb) × (verb_target x verb ≢ kinds.Still)
@@ -91,7 +82,7 @@ module _ (laws : WorkLaws) (tables : Tables) (tries : ℕ) (c : CoreState) (line
       → (made : ℕ × BoxMind) × (box_step x m kind (payload_of tables c kind) ≡ Some made)
   busy_steps b m x kind mine there has looks differs =
       let word = readable kind has differs in
-      let value = says_value (read tables tries c) word.0 (says_read tables tries c kind (payload_of tables c kind) word.0 refl word.1) in
+      let value = says_read tables tries c kind (payload_of tables c kind) word.0 refl word.1 in
       let kind_is = (laws.words.only kind (payload_of tables c kind) word.0 word.1).kind_is in
       let at_word : word_at_work b.0 ((read tables tries c).boxes b.0).work ≡ Some (kind_of word.0) =
       ap (λ (k : BoxMind). word_at_work b.0 k.work) mine ∙ looks ∙ ap Some (sym kind_is) in

@@ -10,7 +10,7 @@ use Rattle.rl_words.specs.declared.mail.MailWord.{MailWord}
 use Rattle.rl_words.specs.declared.mail.MailWord.TheVariants.{Empty, Ask, Taken, Yes, No}
 use Rattle.rl_words.specs.Mail.{IsRefusable}
 use Rattle.rl_protocol.specs.Agreement.{Agrees, Carries, IsPassing, is_passing, place_of, open_attempts, asks}
-use Rattle.rl_protocol.specs.Jobs.{letter_at, passes, has_passed, is_open}
+use Rattle.rl_train.specs.Jobs.{letter, is_pass, has_passed, is_open}
 use Rattle.rl_protocol.specs.Line.{Line}
 use Rattle.rl_protocol.specs.Minds.{at_rest, row_of}
 use Rattle.rl_protocol.specs.Refusals.{is_no, refusals_said}
@@ -32,8 +32,8 @@ passed_open jobs.FreeFar waits h = refl
 passed_open jobs.DropFar waits h = cc
 passed_open jobs.DropNear waits h = cc
 
-passing_open : (job : Job) (waits : Bool) → passes job ≡ true → is_open job waits ≡ true
-unfolding passes is_open
+passing_open : (job : Job) (waits : Bool) → is_pass job ≡ true → is_open job waits ≡ true
+unfolding is_pass is_open
 passing_open jobs.Near waits h = cc
 passing_open jobs.Far waits h = refl
 passing_open jobs.Lock waits h = refl
@@ -45,9 +45,9 @@ passing_open jobs.DropFar waits h = cc
 passing_open jobs.DropNear waits h = cc
 
 -- so has one that waits for an answer which may be No, and it stands on its segment still
-refusable_open : (job : Job) (row : StepRow) (l : Letter) → letter_at job row ≡ Some l → IsRefusable l.verb
+refusable_open : (job : Job) (row : StepRow) (l : Letter) → letter row job ≡ Some l → IsRefusable l.verb
     → (is_open job true ≡ true) × (has_passed job ≡ false)
-unfolding letter_at is_open has_passed
+unfolding letter is_open has_passed
 refusable_open jobs.Near row l h may = (refl, refl)
 refusable_open jobs.Far row l h may = (refl, refl)
 refusable_open jobs.Lock row l h may = (refl, refl)
@@ -78,7 +78,7 @@ module _ (line : Line) (tries : ℕ) (s : State) (agrees : Agrees line tries s) 
       passing : is_passing (s.trains t) ≡ true → steps_made (s.run t) ≤ (s.trains t).step + open_attempts (s.trains t)
       passing passes_box =
           let most = made_passing (s.trains t).step ((agrees.passage t).passing passes_box) in
-          let passes_now : passes (s.trains t).job ≡ true = (and_parts (s.trains t).waits (passes (s.trains t).job) passes_box).1 in
+          let passes_now : is_pass (s.trains t).job ≡ true = (and_parts (s.trains t).waits (is_pass (s.trains t).job) passes_box).1 in
           let one : open_attempts (s.trains t) ≡ 1 = ap (λ b. cond b 1 0) (passing_open (s.trains t).job (s.trains t).waits passes_now) in
           omega arith
 
@@ -101,13 +101,13 @@ module _ (line : Line) (tries : ℕ) (s : State) (agrees : Agrees line tries s) 
       → steps_made (s.run t) + refusals_said s t ≤ (s.trains t).step + (s.trains t).refused + open_attempts (s.trains t)
   one_unheard k u is asking =
       let m = s.trains t in
-      let parts = and_parts m.waits (not (passes m.job)) asking in
-      let stays : passes m.job ≡ false = not-true (passes m.job) parts.1 in
+      let parts = and_parts m.waits (not (is_pass m.job)) asking in
+      let stays : is_pass m.job ≡ false = not-true (is_pass m.job) parts.1 in
       let letter = letter_there m.job (row_of line t m) stays in
       let carried : Carries (No k u) letter.0 = subst (λ v. Carries v letter.0) is (agrees.mailboxes.letter t letter.0 parts.0 letter.1) in
       let may : IsRefusable letter.0.verb = subst (λ l. IsRefusable l.verb) carried.0 carried.1 in
       let found = refusable_open m.job (row_of line t m) letter.0 letter.1 may in
-      let stands : is_passing m ≡ false = ap (λ w. w && passes m.job) parts.0 ∙ stays in
+      let stands : is_passing m ≡ false = ap (λ w. w && is_pass m.job) parts.0 ∙ stays in
       let made : steps_made (s.run t) ≡ m.step = made_standing stands ∙ ap (λ b. cond b (m.step + 1) m.step) found.1 in
       let opened : is_open m.job m.waits ≡ true = ap (λ w. is_open m.job w) parts.0 ∙ found.0 in
       let one : open_attempts m ≡ 1 = ap (λ b. cond b 1 0) opened in

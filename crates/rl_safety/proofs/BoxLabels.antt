@@ -1,14 +1,10 @@
 -- Each step of a box and of its point machine is a step of the protocol.
-use Rattle.std.proofs.Common.{◌≡◌, ◌≢◌, ℕ, zero, suc, ◌<◌, ◌≤◌, ◌==◌, nat_lt, Bool, true, false, ◌&&◌, Option, Some, None, refl, sym, ap, ◌∙◌, subst, inl, inr, arith}
-use Rattle.std.proofs.Math.Path.{fun_ext}
-use Rattle.std.proofs.lemmas.Bool.{cases_eq, cases_lt, ne_eqb}
-use Rattle.std.proofs.lemmas.Bool.Decides.{nat_tests}
+use Rattle.std.proofs.Common.{◌≡◌, ◌≢◌, ℕ, zero, suc, ◌<◌, ◌≤◌, nat_lt, Bool, true, ◌&&◌, Option, Some, None, refl, sym, ap, ◌∙◌, subst}
+use Rattle.std.proofs.Common.{arith}
 use Rattle.rl_base.specs.declared.ids.BoxId.{BoxId}
 use Rattle.rl_base.specs.declared.ids.TrainId.{TrainId}
 use Rattle.rl_base.specs.declared.job.Verb.{Verb}
 use Rattle.rl_base.specs.declared.job.Verb.TheVariants as verbs
-use Rattle.rl_base.specs.declared.kind.Kind.{Kind}
-use Rattle.rl_base.specs.declared.kind.Kind.TheVariants.{Buffer, Joint, Point, Crossing}
 use Rattle.rl_base.specs.declared.layout.Layout.{Layout}
 use Rattle.rl_base.specs.declared.layout.NodeKind.TheVariants as nodes
 use Rattle.rl_base.specs.Kind.{arms_of}
@@ -20,7 +16,6 @@ use Rattle.rl_words.specs.declared.resv.ResvWord.{ResvWord}
 use Rattle.rl_words.specs.Mail.{IsRefusable}
 use Rattle.rl_words.specs.Resv.{arm_in, with_arm}
 use Rattle.rl_words.specs.Word.{Word}
-use Rattle.rl_words.specs.Word.Word.{Resv}
 use Rattle.rl_tables.specs.declared.table.BoxTable.{BoxTable}
 use Rattle.rl_tables.specs.declared.table.Tables.{Tables}
 use Rattle.rl_box.specs.declared.mind.Answer.TheVariants.{No}
@@ -32,20 +27,17 @@ use Rattle.rl_box.specs.Steps.BoxStep.{take, reserve, refuse, release, lock, ask
 use Rattle.rl_track.specs.declared.machine.MachineMind.{MachineMind}
 use Rattle.rl_track.specs.Machine.{MachineStep}
 use Rattle.rl_track.specs.Machine.MachineStep.{throw, settle}
-use Rattle.rl_runs.specs.declared.mind.Mind.TheVariants.{Box, Machine}
-use Rattle.rl_protocol.specs.State.{State, put, put_at}
-use Rattle.rl_protocol.specs.Steps.Step.{take as take_label, grant as grant_label, refuse as refuse_label, release as release_label, lock_now as lock_now_label, lock_ask as lock_ask_label, lock_moved as lock_moved_label, unlock as unlock_label, say_yes as say_yes_label, say_no as say_no_label, busy as busy_label, throw as throw_label, settle as settle_label}
+use Rattle.rl_steps.specs.declared.mind.Mind.TheVariants.{Box, Machine}
+use Rattle.rl_protocol.specs.State.{State, put}
+use Rattle.rl_protocol.specs.Steps.Step.{take as take_label, grant as grant_label, refuse as refuse_label, release as release_label, lock_now as lock_now_label}
+use Rattle.rl_protocol.specs.Steps.Step.{lock_ask as lock_ask_label, lock_moved as lock_moved_label, unlock as unlock_label, say_yes as say_yes_label}
+use Rattle.rl_protocol.specs.Steps.Step.{say_no as say_no_label, busy as busy_label, throw as throw_label, settle as settle_label}
 use Rattle.rl_protocol.specs.TableLine.{line_of}
-use Rattle.rl_safety.specs.Reading.{holder_of}
 use Rattle.rl_safety.specs.Railway.{segment_of}
 use Rattle.rl_safety.specs.Moves.{arm_move, resv_move}
-use Rattle.rl_safety.specs.Labels.{IsLabel, Says}
-use Rattle.rl_safety.proofs.Words.{resv_with}
-
--- one arm of a reservation word, as the words' own laws have it
-pub record KeepsArms : Type 0 where
-  pub same : (w : ResvWord) (x : ℕ) (arm : Option TrainId) → x < 4 → arm_in (with_arm w x arm) x ≡ arm
-  pub others : (w : ResvWord) (x y : ℕ) (arm : Option TrainId) → x < 4 → y < 4 → y ≢ x → arm_in (with_arm w x arm) y ≡ arm_in w y
+use Rattle.rl_protocol.specs.Sentences.{StateSays}
+use Rattle.rl_safety.specs.Labels.{IsLabel}
+use Rattle.rl_protocol.proofs.BoxLabels.{few_arms, four_arms, new_resv, same_resv, same_lock}
 
 -- a box of the tables, as the state has it
 pub record IsBoxHere (tables : Tables) (lay : Layout) (s : State) (x : BoxTable) (m : BoxMind) : Type 0 where
@@ -54,54 +46,8 @@ pub record IsBoxHere (tables : Tables) (lay : Layout) (s : State) (x : BoxTable)
   pub arms : (i : ℕ) → (line_of tables).has_arm x.number.0 i ≡ nat_lt i (arms_of x.kind)
   pub work : IsWork lay x m.work
 
-few_arms : (kind : Kind) → arms_of kind ≤ 4
-few_arms Buffer = omega arith
-few_arms Joint = omega arith
-few_arms Point = omega arith
-few_arms Crossing = omega arith
-
 letter_arm : (x : BoxTable) (l : Letter) → IsLetterTo x l → l.x.0 < 4
 letter_arm x l is = let few : arms_of x.kind ≤ 4 = few_arms x.kind in let there : l.x.0 < arms_of x.kind = is.x in omega arith
-
--- the arms of a box after one of them is written
-resv_put : KeepsArms → (f : ℕ → ℕ → Option TrainId) (b : BoxId) (w : ResvWord) (x : ℕ) (arm : Option TrainId) → x < 4
-    → ((y : ℕ) → f b.0 y ≡ holder_of (Some w) y) → put_at f b.0 x arm ≡ resv_with f b (with_arm w x arm)
-resv_put law f b w x arm small says =
-    fun_ext (λ c. fun_ext (λ y. elim (cases_eq c b.0) [
-      | inl same ↦
-          let test : (b.0 == b.0) ≡ true = grind (arith, nat_tests) in
-          elim (cases_eq y x) [
-            | inl here ↦
-                let itself : (x == x) ≡ true = grind (arith, nat_tests) in
-                let within : nat_lt x 4 ≡ true = grind (arith, nat_tests) in
-                rw (same, here, test, itself, within, law.same w x arm small) refl
-            | inr there ↦
-                elim (cases_lt y 4) [
-                  | inl few ↦
-                      let within : nat_lt y 4 ≡ true = grind (arith, nat_tests) in
-                      rw (same, test, ne_eqb y x there, within, law.others w x y arm small few there) (says y ∙ (rw within refl))
-                  | inr past ↦
-                      let beyond : nat_lt y 4 ≡ false = grind (arith, nat_tests) in
-                      rw (same, test, ne_eqb y x there, beyond) (says y ∙ (rw beyond refl))
-                ]
-          ]
-      | inr other ↦ rw (ne_eqb c b.0 other) refl
-    ]))
-
--- and where none is
-resv_stays : (f : ℕ → ℕ → Option TrainId) (b : BoxId) (w : ResvWord) → ((y : ℕ) → f b.0 y ≡ holder_of (Some w) y) → f ≡ resv_with f b w
-resv_stays f b w says =
-    fun_ext (λ c. fun_ext (λ y. elim (cases_eq c b.0) [
-      | inl same ↦ let test : (b.0 == b.0) ≡ true = grind (arith, nat_tests) in rw (same, test) (says y)
-      | inr other ↦ rw (ne_eqb c b.0 other) refl
-    ]))
-
-lock_stays : (f : ℕ → LockWord) (b : ℕ) (v : LockWord) → f b ≡ v → f ≡ put f b v
-lock_stays f b v says =
-    fun_ext (λ c. elim (cases_eq c b) [
-      | inl same ↦ let test : (b == b) ≡ true = grind (arith, nat_tests) in rw (same, test) says
-      | inr other ↦ rw (ne_eqb c b other) refl
-    ])
 
 -- the move of a reservation word
 arm_same : (tables : Tables) (b : BoxId) (x : ℕ) (a : Option TrainId) → arm_move tables b x a a ≡ None
@@ -129,10 +75,6 @@ resv_released tables b w (suc (suc (suc zero))) t small held =
     rw (arm_same tables b 0 w.arm0, arm_same tables b 1 w.arm1, arm_same tables b 2 w.arm2, held) refl
 resv_released tables b w (suc (suc (suc (suc x)))) t small held = absurd (omega arith)
 
--- the arm that the state has
-says_arm : (s : State) (b : BoxId) (w : ResvWord) (x : ℕ) → x < 4 → Says s (Resv b w) → s.resv b.0 x ≡ arm_in w x
-says_arm s b w x small says = let within : nat_lt x 4 ≡ true = grind (arith, nat_tests) in says x ∙ (rw within refl)
-
 other_number : (u t : TrainId) → u ≢ t → u.0 ≢ t.0
 other_number u t differ = λ same. differ (ap (λ (n : ℕ). let made : TrainId = record { 0 = n } in made) same)
 
@@ -142,9 +84,9 @@ both a b c d p q e = rw (p, q) e
 refusable : (verb is : Verb) → verb ≡ is → IsRefusable is → IsRefusable verb
 refusable verb is same may = subst IsRefusable (sym same) may
 
-pub box_label : KeepsArms → (tables : Tables) (lay : Layout) (s : State) (x : BoxTable) (m after : BoxMind) (seen left : Word)
-    → IsBoxHere tables lay s x m → Says s seen → BoxStep x m seen left after → IsLabel tables s (nodes.Box x.number) (Box after) seen left
-box_label law tables lay s x m after seen left here says (take t l waiting to arms) =
+pub box_label : (tables : Tables) (lay : Layout) (s : State) (x : BoxTable) (m after : BoxMind) (seen left : Word)
+    → IsBoxHere tables lay s x m → StateSays s seen → BoxStep x m seen left after → IsLabel tables s (nodes.Box x.number) (Box after) seen left
+box_label tables lay s x m after seen left here says (take t l waiting to arms) =
     record {
       step = take_label x.number.0 t.0 l;
       fits = (
@@ -159,36 +101,36 @@ box_label law tables lay s x m after seen left here says (take t l waiting to ar
       moves = refl;
       by = refl;
     }
-box_label law tables lay s x m after seen left here says (reserve t l waiting w verb free) =
+box_label tables lay s x m after seen left here says (reserve t l waiting w verb free) =
     let small : l.x.0 < 4 = letter_arm x l here.work.1 in
     record {
       step = grant_label x.number.0 t.0 l;
-      fits = (ap (λ (n : BoxMind). n.work) here.mind, verb, says_arm s x.number w l.x.0 small says ∙ free);
-      leaves = rw (here.mind, resv_put law s.resv x.number w l.x.0 (Some t) small says) refl;
+      fits = (ap (λ (n : BoxMind). n.work) here.mind, verb, says l.x.0 ∙ four_arms w l.x.0 small ∙ free);
+      leaves = rw (here.mind, new_resv s.resv x.number.0 l.x.0 w (Some t) small says) refl;
       moves = sym (resv_reserved tables x.number w l.x.0 t small free);
       by = refl;
     }
-box_label law tables lay s x m after seen left here says (refuse t u l waiting w verb held differ) =
+box_label tables lay s x m after seen left here says (refuse t u l waiting w verb held differ) =
     let small : l.x.0 < 4 = letter_arm x l here.work.1 in
     record {
       step = refuse_label x.number.0 t.0 l u;
-      fits = (ap (λ (n : BoxMind). n.work) here.mind, verb, says_arm s x.number w l.x.0 small says ∙ held, other_number u t differ);
+      fits = (ap (λ (n : BoxMind). n.work) here.mind, verb, says l.x.0 ∙ four_arms w l.x.0 small ∙ held, other_number u t differ);
       leaves =
           let with_resv : (ℕ → ℕ → Option TrainId) → State = λ f. record s { boxes = put s.boxes x.number.0 (box_at (Say t l (No u)) waiting); resv = f } in
-          rw here.mind (ap with_resv (resv_stays s.resv x.number w says));
+          rw here.mind (ap with_resv (same_resv s.resv x.number.0 w says));
       moves = sym (resv_same tables x.number w);
       by = refl;
     }
-box_label law tables lay s x m after seen left here says (release t l waiting w verb held) =
+box_label tables lay s x m after seen left here says (release t l waiting w verb held) =
     let small : l.x.0 < 4 = letter_arm x l here.work.1 in
     record {
       step = release_label x.number.0 t.0 l;
-      fits = (ap (λ (n : BoxMind). n.work) here.mind, verb, says_arm s x.number w l.x.0 small says ∙ held);
-      leaves = rw (here.mind, resv_put law s.resv x.number w l.x.0 None small says) refl;
+      fits = (ap (λ (n : BoxMind). n.work) here.mind, verb, says l.x.0 ∙ four_arms w l.x.0 small ∙ held);
+      leaves = rw (here.mind, new_resv s.resv x.number.0 l.x.0 w None small says) refl;
       moves = sym (resv_released tables x.number w l.x.0 t small held);
       by = refl;
     }
-box_label law tables lay s x m after seen left here says (lock t l side verb joined) =
+box_label tables lay s x m after seen left here says (lock t l side verb joined) =
     record {
       step = lock_now_label x.number.0 t.0 l side;
       fits = (here.mind, verb, says, rw here.kind joined);
@@ -196,7 +138,7 @@ box_label law tables lay s x m after seen left here says (lock t l side verb joi
       moves = refl;
       by = refl;
     }
-box_label law tables lay s x m after seen left here says (ask t l side verb apart joined) =
+box_label tables lay s x m after seen left here says (ask t l side verb apart joined) =
     record {
       step = lock_ask_label x.number.0 t.0 l side;
       fits = (here.mind, verb, says, rw here.kind apart, rw here.kind joined);
@@ -204,9 +146,9 @@ box_label law tables lay s x m after seen left here says (ask t l side verb apar
       moves = refl;
       by = refl;
     }
-box_label law tables lay s x m after seen left here says (moved p) =
+box_label tables lay s x m after seen left here says (moved p) =
     record { step = lock_moved_label x.number.0 p; fits = (here.mind, says); leaves = refl; moves = refl; by = refl }
-box_label law tables lay s x m after seen left here says (unlock t l side verb joined) =
+box_label tables lay s x m after seen left here says (unlock t l side verb joined) =
     record {
       step = unlock_label x.number.0 t.0 l side;
       fits = (here.mind, verb, says, rw here.kind joined);
@@ -214,7 +156,7 @@ box_label law tables lay s x m after seen left here says (unlock t l side verb j
       moves = refl;
       by = refl;
     }
-box_label law tables lay s x m after seen left here says (say_yes t l waiting) =
+box_label tables lay s x m after seen left here says (say_yes t l waiting) =
     record {
       step = say_yes_label x.number.0 t.0 l;
       fits = (ap (λ (n : BoxMind). n.work) here.mind, says);
@@ -222,7 +164,7 @@ box_label law tables lay s x m after seen left here says (say_yes t l waiting) =
       moves = refl;
       by = refl;
     }
-box_label law tables lay s x m after seen left here says (say_refused t u l waiting verb) =
+box_label tables lay s x m after seen left here says (say_refused t u l waiting verb) =
     record {
       step = say_no_label x.number.0 t.0 l u;
       fits = (ap (λ (n : BoxMind). n.work) here.mind, refusable l.verb verbs.Reserve verb tt, says);
@@ -230,7 +172,7 @@ box_label law tables lay s x m after seen left here says (say_refused t u l wait
       moves = rw (verb, here.work.1.to) refl;
       by = refl;
     }
-box_label law tables lay s x m after seen left here says (say_barred t u l waiting verb) =
+box_label tables lay s x m after seen left here says (say_barred t u l waiting verb) =
     record {
       step = say_no_label x.number.0 t.0 l u;
       fits = (ap (λ (n : BoxMind). n.work) here.mind, refusable l.verb verbs.Lock verb tt, says);
@@ -238,18 +180,18 @@ box_label law tables lay s x m after seen left here says (say_barred t u l waiti
       moves = rw (verb, here.work.1.to) refl;
       by = refl;
     }
-box_label law tables lay s x m after seen left here says (busy t l p verb differ) =
+box_label tables lay s x m after seen left here says (busy t l p verb differ) =
     record {
       step = busy_label x.number.0 t.0 l p;
       fits = (here.mind, verb, says, other_number p.train t differ);
       leaves =
           let with_lock : (ℕ → LockWord) → State = λ f. record s { boxes = put s.boxes x.number.0 (box_at (Say t l (No p.train)) None); lock = f } in
-          rw here.mind (ap with_lock (lock_stays s.lock x.number.0 (Locked p) says));
+          rw here.mind (ap with_lock (same_lock s.lock x.number.0 (Locked p) says));
       moves = refl;
       by = refl;
     }
 
-pub machine_label : (tables : Tables) (s : State) (b : BoxId) (m after : MachineMind) (seen left : Word) → Says s seen
+pub machine_label : (tables : Tables) (s : State) (b : BoxId) (m after : MachineMind) (seen left : Word) → StateSays s seen
     → MachineStep b m seen left after → IsLabel tables s (nodes.Machine b) (Machine after) seen left
 machine_label tables s b m after seen left says (throw mind p) = record { step = throw_label b.0 p; fits = says; leaves = refl; moves = refl; by = refl }
 machine_label tables s b m after seen left says (settle mind p) = record { step = settle_label b.0 p; fits = says; leaves = refl; moves = refl; by = refl }

@@ -16,14 +16,15 @@ use Rattle.rl_tables.specs.declared.table.Tables.{Tables}
 use Rattle.rl_train.specs.declared.mind.TrainMind.{TrainMind}
 use Rattle.rl_box.specs.declared.mind.BoxMind.{BoxMind}
 use Rattle.rl_track.specs.declared.track.TrackMind.{TrackMind}
-use Rattle.rl_runs.specs.declared.mind.Mind.{Mind}
-use Rattle.rl_runs.specs.declared.mind.Mind.TheVariants.{Train, Track, Box, Machine}
-use Rattle.rl_runs.specs.Sound.{IsMindOf}
-use Rattle.rl_runs.specs.State.{CoreState, after}
-use Rattle.rl_runs.proofs.Options.{from_map}
+use Rattle.rl_steps.specs.declared.mind.Mind.{Mind}
+use Rattle.rl_steps.specs.declared.mind.Mind.TheVariants.{Train, Track, Box, Machine}
+use Rattle.rl_steps.specs.Sound.{IsMindOf}
+use Rattle.rl_steps.specs.State.{CoreState, after}
+use Rattle.rl_steps.proofs.Options.{from_map}
 use Rattle.rl_protocol.specs.State.{State}
-use Rattle.rl_safety.specs.Reading.{read, holder_in, lock_in, mail_in, run_in, sense_in, train_of, track_of, box_of}
-use Rattle.rl_safety.specs.Effects.{with_mind, with_word}
+use Rattle.rl_safety.specs.Reading.{read, resv_in, lock_in, mail_in, run_in, sense_in, train_of, track_of, box_of}
+use Rattle.rl_protocol.specs.Sentences.{with_word}
+use Rattle.rl_safety.specs.Effects.{with_mind}
 use Rattle.rl_safety.proofs.Minds.{IsBy, trains_kept, trains_new, tracks_kept, tracks_new, boxes_kept, boxes_new}
 use Rattle.rl_safety.proofs.Words.{IsOn, locks_kept, locks_new, mails_kept, mails_new, runs_kept, runs_new, senses_kept, senses_new, resvs_kept, resvs_new}
 
@@ -74,14 +75,14 @@ minds_after tables tries c e (nodes.Machine b) (Machine m) by is =
 
 -- the new words; s has the words as they were
 record HasWords (tables : Tables) (c : CoreState) (e : Event) (s : State) : Type 0 where
-  pub resv : holder_in tables (after tables c e) ≡ s.resv
+  pub resv : resv_in tables (after tables c e) ≡ s.resv
   pub lock : lock_in tables (after tables c e) ≡ s.lock
   pub mail : mail_in tables (after tables c e) ≡ s.mail
   pub run : run_in tables (after tables c e) ≡ s.run
   pub sense : sense_in tables (after tables c e) ≡ s.sense
 
 record IsRead (tables : Tables) (c : CoreState) (s : State) : Type 0 where
-  pub resv : holder_in tables c ≡ s.resv
+  pub resv : resv_in tables c ≡ s.resv
   pub lock : lock_in tables c ≡ s.lock
   pub mail : mail_in tables c ≡ s.mail
   pub run : run_in tables c ≡ s.run

@@ -1,7 +1,8 @@
 -- Each event that fits a state is a step of the protocol there.
-use Rattle.std.proofs.Common.{◌≡◌, ℕ, ◌+◌, ◌*◌, ◌^◌, ◌<◌, nat_lt, true, length, slice_get, Option, Some, None, option_map, refl, sym, ap, ◌∙◌, subst, arith}
+use Rattle.std.proofs.Common.{◌≡◌, ℕ, ◌+◌, ◌*◌, ◌<◌, nat_lt, true, length, slice_get, Option, Some, None, option_map, refl, sym, ap, ◌∙◌, subst, arith}
 use Rattle.std.specs.Prelude.{is_some, unwrap_or}
 use Rattle.std.proofs.lemmas.Bool.Decides.{nat_tests}
+use Rattle.rl_base.specs.Numbers.{IsU32}
 use Rattle.rl_base.specs.declared.ids.BoxId.{BoxId}
 use Rattle.rl_base.specs.declared.ids.SegId.{SegId}
 use Rattle.rl_base.specs.declared.ids.TrainId.{TrainId}
@@ -40,25 +41,25 @@ use Rattle.rl_track.specs.declared.track.TrackPhase.TheVariants.{Watch, LeaveDue
 use Rattle.rl_track.specs.declared.machine.MachineMind.{MachineMind}
 use Rattle.rl_track.specs.Machine.{machine_step}
 use Rattle.rl_track.specs.Track.{track_step, track_at}
-use Rattle.rl_runs.specs.declared.mind.Mind.{Mind}
-use Rattle.rl_runs.specs.declared.mind.Mind.TheVariants.{Train, Track, Box, Machine}
-use Rattle.rl_runs.specs.Numbers.{node_at, word_at}
-use Rattle.rl_runs.specs.Sound.{IsMindOf}
-use Rattle.rl_runs.specs.Step.{step_of, as_mind}
-use Rattle.rl_runs.specs.State.{CoreState, after}
-use Rattle.rl_runs.proofs.Keeping.{StepsKeep}
-use Rattle.rl_runs.proofs.Made.{IsMade}
-use Rattle.rl_runs.proofs.Options.{from_map, from_then, same_some}
+use Rattle.rl_steps.specs.declared.mind.Mind.{Mind}
+use Rattle.rl_steps.specs.declared.mind.Mind.TheVariants.{Train, Track, Box, Machine}
+use Rattle.rl_steps.specs.Numbers.{node_at, word_at}
+use Rattle.rl_steps.specs.Sound.{IsMindOf}
+use Rattle.rl_steps.specs.Step.{step_of, as_mind}
+use Rattle.rl_steps.specs.State.{CoreState, after}
+use Rattle.rl_steps.proofs.Keeping.{StepsKeep}
+use Rattle.rl_steps.proofs.Made.{IsMade}
+use Rattle.rl_steps.proofs.Options.{from_map, from_then, same_some}
 use Rattle.rl_protocol.specs.State.{State}
-use Rattle.rl_protocol.specs.Steps.{Step, Fits, next}
+use Rattle.rl_protocol.specs.Steps.{Step, StepFits, next}
 use Rattle.rl_protocol.specs.StepMoves as moves
 use Rattle.rl_protocol.specs.Nodes.{node_of}
-use Rattle.rl_protocol.specs.TableLine.{line_of}
-use Rattle.rl_safety.specs.Labels.{IsLabel, Says}
+use Rattle.rl_protocol.specs.TableLine.{line_of, row_at}
+use Rattle.rl_protocol.specs.Sentences.{StateSays}
+use Rattle.rl_safety.specs.Labels.{IsLabel}
 use Rattle.rl_safety.specs.Moves.{move_of}
-use Rattle.rl_safety.specs.Railway.{row_at}
-use Rattle.rl_safety.specs.Reading.{read, payload_of, holder_of}
-use Rattle.rl_safety.proofs.BoxLabels.{KeepsArms, IsBoxHere, box_label, machine_label}
+use Rattle.rl_safety.specs.Reading.{read, payload_of, holder_read}
+use Rattle.rl_safety.proofs.BoxLabels.{IsBoxHere, box_label, machine_label}
 use Rattle.rl_safety.proofs.Effects.{state_after}
 use Rattle.rl_safety.proofs.Minds.{IsBy}
 use Rattle.rl_safety.proofs.Payloads.{payload_of_stamped}
@@ -75,27 +76,27 @@ read_back laws kind n word is = subst (λ (k : ℕ). read_word (kind_of word) k 
 
 -- the state says of a word what is read of it
 pub says_read : (tables : Tables) (tries : ℕ) (c : CoreState) (kind : WordKind) (payload : ℕ) (seen : Word) → payload_of tables c kind ≡ payload
-    → read_word kind payload ≡ Some seen → Says (read tables tries c) seen
+    → read_word kind payload ≡ Some seen → StateSays (read tables tries c) seen
 says_read tables tries c kinds.Still payload seen is reads = absurd (cc)
 says_read tables tries c (kinds.Resv b) payload seen is reads =
     let got = from_map (Resv b) (read_resv payload) seen reads in
-    let S : Word → Type 0 = λ w. Says (read tables tries c) w in
-    subst S got.2 (λ x. ap (λ o. holder_of o x) (ap read_resv is ∙ got.1))
+    let S : Word → Type 0 = λ w. StateSays (read tables tries c) w in
+    subst S got.2 (λ x. ap (λ o. holder_read o x) (ap read_resv is ∙ got.1))
 says_read tables tries c (kinds.Lock b) payload seen is reads =
     let got = from_map (Lock b) (read_lock payload) seen reads in
-    let S : Word → Type 0 = λ w. Says (read tables tries c) w in
+    let S : Word → Type 0 = λ w. StateSays (read tables tries c) w in
     subst S got.2 (ap (λ o. unwrap_or o (Free Left)) (ap read_lock is ∙ got.1))
 says_read tables tries c (kinds.Mail t) payload seen is reads =
     let got = from_map (Mail t) (read_mail payload) seen reads in
-    let S : Word → Type 0 = λ w. Says (read tables tries c) w in
+    let S : Word → Type 0 = λ w. StateSays (read tables tries c) w in
     subst S got.2 (ap (λ o. unwrap_or o Empty) (ap read_mail is ∙ got.1))
 says_read tables tries c (kinds.Run t) payload seen is reads =
     let got = from_map (Run t) (read_run payload) seen reads in
-    let S : Word → Type 0 = λ w. Says (read tables tries c) w in
+    let S : Word → Type 0 = λ w. StateSays (read tables tries c) w in
     subst S got.2 (ap (λ o. unwrap_or o (Clear 0)) (ap read_run is ∙ got.1))
 says_read tables tries c (kinds.Sense t) payload seen is reads =
     let got = from_map (Sense t) (read_sense payload) seen reads in
-    let S : Word → Type 0 = λ w. Says (read tables tries c) w in
+    let S : Word → Type 0 = λ w. StateSays (read tables tries c) w in
     subst S got.2 (ap (λ o. unwrap_or o (Quiet 0)) (ap read_sense is ∙ got.1))
 
 -- the minds that the state has
@@ -139,7 +140,7 @@ arms_there tables b x i line there = rw there (is_some_map (λ (s : SegId). s.0)
 -- an event as a step of the protocol, and what its word says after it
 pub record IsEventStep (tables : Tables) (tries : ℕ) (c : CoreState) (e : Event) : Type 0 where
   pub step : Step
-  pub fits : Fits (line_of tables) (read tables tries c) step
+  pub fits : StepFits (line_of tables) (read tables tries c) step
   pub leaves : read tables tries (after tables c e) ≡ next (line_of tables) (read tables tries c) step
   pub move : move_of tables e ≡ moves.move_of (line_of tables) step
   pub node : NodeKind
@@ -157,7 +158,7 @@ pub record IsStepAt (tables : Tables) (s : State) (node : NodeKind) (kind : Word
   pub saw : read_word kind payload ≡ Some seen
   pub kind_left : kind_of left ≡ kind
   pub reads : read_word (kind_of left) made.0 ≡ Some left
-  pub small : made.0 < 2 ^ 32
+  pub small : IsU32 made.0
   pub mind : IsMindOf tables node made.1
   pub label : IsLabel tables s node made.1 seen left
 
@@ -252,11 +253,11 @@ track_event laws words tables tries c t m kind payload made there mind sound ent
           (track_here tables tries c t m there mind) says enters leaves kept.step;
     }
 
-pub box_event : StepsKeep → ReadsWords → KeepsArms → (tables : Tables) (tries : ℕ) (c : CoreState) (b : BoxId) (m : BoxMind) (kind : WordKind)
+pub box_event : StepsKeep → ReadsWords → (tables : Tables) (tries : ℕ) (c : CoreState) (b : BoxId) (m : BoxMind) (kind : WordKind)
     (payload : ℕ) (made : ℕ × Mind) → IsLine tables → HasWord (layout_of tables) kind → b.0 < length tables.boxes
     → c.minds (2 * length tables.trains + b.0) ≡ Box m → IsMindOf tables (nodes.Box b) (Box m) → payload_of tables c kind ≡ payload
     → step_of tables (nodes.Box b) (Box m) kind payload ≡ Some made → IsStepAt tables (read tables tries c) (nodes.Box b) kind payload made
-box_event laws words arms tables tries c b m kind payload made line has there mind sound is step =
+box_event laws words tables tries c b m kind payload made line has there mind sound is step =
     let found = from_then (λ (x : BoxTable). as_mind Box (box_step x m kind payload)) (slice_get tables.boxes b.0) made step in
     let x : BoxTable = found.0 in
     let stepped = from_map (λ (r : ℕ × BoxMind). let pair : ℕ × Mind = (r.0, Box r.1) in pair) (box_step x m kind payload) made found.2 in
@@ -274,7 +275,7 @@ box_event laws words arms tables tries c b m kind payload made line has there mi
       arms = λ i. arms_there tables x.number.0 x i line there_at;
       work = (sound x found.1).work;
     } in
-    let label = box_label arms tables (layout_of tables) (read tables tries c) x m stepped.0.1 kept.seen kept.left here says kept.step in
+    let label = box_label tables (layout_of tables) (read tables tries c) x m stepped.0.1 kept.seen kept.left here says kept.step in
     let mine : IsMindOf tables (nodes.Box b) (Box stepped.0.1) =
     λ y y_is. subst (λ (z : BoxTable). IsBoxMind (layout_of tables) z stepped.0.1) (same_some (slice_get tables.boxes b.0) x y found.1 y_is) kept.after_is in
     let P : ℕ × Mind → Type 0 = λ r. IsStepAt tables (read tables tries c) (nodes.Box b) kind payload r in

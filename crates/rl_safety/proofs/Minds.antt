@@ -14,12 +14,12 @@ use Rattle.rl_tables.specs.Starts.{layout_of}
 use Rattle.rl_train.specs.declared.mind.TrainMind.{TrainMind}
 use Rattle.rl_box.specs.declared.mind.BoxMind.{BoxMind}
 use Rattle.rl_track.specs.declared.track.TrackMind.{TrackMind}
-use Rattle.rl_runs.specs.declared.mind.Mind.{Mind}
-use Rattle.rl_runs.specs.declared.mind.Mind.TheVariants.{Train, Track, Box}
-use Rattle.rl_runs.specs.Numbers.{node_at, train, box}
-use Rattle.rl_runs.specs.State as states
-use Rattle.rl_runs.specs.State.{CoreState, after, mind_after}
-use Rattle.rl_runs.proofs.Numbering.{node_at-number, node_at-some}
+use Rattle.rl_steps.specs.declared.mind.Mind.{Mind}
+use Rattle.rl_steps.specs.declared.mind.Mind.TheVariants.{Train, Track, Box}
+use Rattle.rl_steps.specs.Numbers.{node_at, train, box}
+use Rattle.rl_steps.specs.State as states
+use Rattle.rl_steps.specs.State.{CoreState, after, mind_after}
+use Rattle.rl_steps.proofs.Numbering.{node_at-number, node_at-some}
 use Rattle.rl_protocol.specs.State.{put}
 use Rattle.rl_safety.specs.Reading.{train_of, track_of, box_of}
 

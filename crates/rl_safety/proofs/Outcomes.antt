@@ -1,5 +1,6 @@
 -- The outcomes of a report by the minds in the end: their fates fit, and no train that rests is under way.
-use Rattle.std.proofs.Common.{◌≡◌, ◌⊎◌, ℕ, ◌<◌, ◌≤◌, ◌==◌, Bool, true, false, cond, not, ◌&&◌, ◌||◌, List, map, length, slice_get, Some, refl, sym, ap, ◌∙◌, subst, inl, inr, ⊎_elim, arith}
+use Rattle.std.proofs.Common.{◌≡◌, ◌⊎◌, ℕ, ◌<◌, ◌≤◌, ◌==◌, Bool, true, false, cond, not, ◌&&◌, ◌||◌, List, map, length, slice_get, Some, refl, sym, ap, ◌∙◌}
+use Rattle.std.proofs.Common.{subst, inl, inr, ⊎_elim, arith}
 use Rattle.std.specs.List.{range_with_len}
 use Rattle.std.proofs.lemmas.Bool.{and_parts, or_cases, cond_both, eqb-true, eqb-false, false≢true}
 use Rattle.std.proofs.lemmas.List.FromFn.{length-map-range_with_len, get_or-map-range_with_len}
@@ -13,14 +14,14 @@ use Rattle.rl_model.specs.Reports.{Rests, FateFits, IsRightOutcome, made_in, ref
 use Rattle.rl_model.specs.Safety.{world_after}
 use Rattle.rl_model.specs.World.{World}
 use Rattle.rl_record.specs.declared.event.Event.{Event}
-use Rattle.rl_runs.specs.Run.{state}
+use Rattle.rl_steps.specs.Run.{state}
 use Rattle.rl_tables.specs.declared.table.Tables.{Tables}
 use Rattle.rl_train.specs.declared.mind.TrainMind.{TrainMind}
 use Rattle.rl_protocol.specs.Agreement.{Agrees}
-use Rattle.rl_protocol.specs.Jobs.{begins}
+use Rattle.rl_train.specs.Jobs.{is_near}
 use Rattle.rl_protocol.specs.Minds.{at_rest}
 use Rattle.rl_protocol.specs.Refusals.{refusals_said}
-use Rattle.rl_protocol.specs.Rest.{AllRest}
+use Rattle.rl_protocol.specs.Rest.{AllAtRest}
 use Rattle.rl_protocol.specs.State.{State}
 use Rattle.rl_protocol.specs.TableLine.{line_of}
 use Rattle.rl_protocol.specs.Worlds.{steps_made}
@@ -55,7 +56,7 @@ module _ (net : NetworkPlan) (tables : Tables) (tries : ℕ) (s : State) (w : Wo
           let within = (agrees.attempts t).within in
           let short = eqb-false (s.trains t).step ((line_of tables).steps t) e in
           let ends =
-          (and_parts (not (s.trains t).waits && begins (s.trains t).job) ((s.trains t).step == (line_of tables).steps t || (s.trains t).left == 0) rests).1 in
+          (and_parts (not (s.trains t).waits && is_near (s.trains t).job) ((s.trains t).step == (line_of tables).steps t || (s.trains t).left == 0) rests).1 in
           let none : (s.trains t).left ≡ 0 =
           ⊎_elim (λ d. absurd (false≢true (sym e ∙ d))) (λ d. eqb-true (s.trains t).left 0 d)
           (or_cases ((s.trains t).step == (line_of tables).steps t) ((s.trains t).left == 0) ends) in
@@ -117,7 +118,7 @@ ended_fate tables t m rests = by (m.step == (line_of tables).steps t) refl
     by false e = inr (rw (rests, e) refl)
 
 pub ended_outcome : (tables : Tables) (tries : ℕ) (events : List Event) (t : ℕ) (o : Outcome)
-    → AllRest (line_of tables) (read tables tries (state tables tries events)) → slice_get (outcomes_of tables tries events) t ≡ Some o
+    → AllAtRest (line_of tables) (read tables tries (state tables tries events)) → slice_get (outcomes_of tables tries events) t ≡ Some o
     → (o.fate ≡ Arrived) ⊎ (o.fate ≡ Spent)
 ended_outcome tables tries events t o rest at =
     let found = listed (λ t. outcome_of tables (moves_of tables events) t (mind_in tables tries events t)) (length tables.trains) t o at in

@@ -4,6 +4,7 @@ use Rattle.std.proofs.lemmas.Bool.{cases_lt}
 use Rattle.std.proofs.lemmas.Bool.Decides.{nat_tests}
 use Rattle.std.proofs.lemmas.List.{get_or-set_same, get_or-set_other}
 use Rattle.std.proofs.lemmas.Option.{slice_get_within, get_or_from_slice_get}
+use Rattle.rl_base.specs.Numbers.{IsU32}
 use Rattle.rl_base.specs.declared.layout.Layout.{Layout}
 use Rattle.rl_base.specs.declared.layout.WordKind.{WordKind}
 use Rattle.rl_base.specs.declared.layout.WordKind.TheVariants as words
@@ -12,9 +13,9 @@ use Rattle.rl_record.specs.declared.event.Event.{Event}
 use Rattle.rl_words.specs.Stamps.{payload_in, stamped}
 use Rattle.rl_tables.specs.declared.table.Tables.{Tables}
 use Rattle.rl_tables.specs.Starts.{layout_of}
-use Rattle.rl_runs.specs.Numbers.{word_at}
-use Rattle.rl_runs.specs.State.{CoreState, after}
-use Rattle.rl_runs.proofs.Numbering.{word_at-number, word_at-some}
+use Rattle.rl_steps.specs.Numbers.{word_at}
+use Rattle.rl_steps.specs.State.{CoreState, after}
+use Rattle.rl_steps.proofs.Numbering.{word_at-number, word_at-some}
 use Rattle.rl_safety.specs.Reading.{has_word, payload_of}
 
 -- the test of a word's being there
@@ -42,14 +43,14 @@ payload_read tables c kind w was at word =
     let got : slice_index_or c.words w 0 ≡ was = get_or_from_slice_get c.words w was 0 word in
     rw (has_word-true (layout_of tables) kind is.0, is.1, got) refl
 
-pub payload_of_stamped : (stamp payload : ℕ) → payload < 2 ^ 32 → payload_in (stamped stamp payload) ≡ payload
+pub payload_of_stamped : (stamp payload : ℕ) → IsU32 payload → payload_in (stamped stamp payload) ≡ payload
 payload_of_stamped stamp payload small =
     let rest : (payload + stamp * 2 ^ 32) % 2 ^ 32 ≡ payload = omega arith in
     let one : (payload + stamp * 2 ^ 32) / 1 ≡ payload + stamp * 2 ^ 32 = omega arith in
     rw one rest
 
 pub payload_changed : (tables : Tables) (c : CoreState) (e : Event) (kind : WordKind) (new : ℕ) → word_at (layout_of tables) e.word.0 ≡ Some kind
-    → slice_get c.words e.word.0 ≡ Some e.was → e.now ≡ stamped e.stamp new → new < 2 ^ 32 → payload_of tables (after tables c e) kind ≡ new
+    → slice_get c.words e.word.0 ≡ Some e.was → e.now ≡ stamped e.stamp new → IsU32 new → payload_of tables (after tables c e) kind ≡ new
 payload_changed tables c e kind new at word now small =
     let is = word_at-some (layout_of tables) e.word.0 kind at in
     let within : e.word.0 < length c.words = slice_get_within c.words e.word.0 e.was word in

@@ -1,5 +1,6 @@
 -- What the words of a state that agrees name is there.
-use Rattle.std.proofs.Common.{◌≡◌, ℕ, ◌<◌, ◌≤◌, Bool, true, false, cond, not, ◌&&◌, ◌||◌, length, slice_get, Option, Some, None, refl, sym, ap, ◌∙◌, subst, inl, inr, arith}
+use Rattle.std.proofs.Common.{◌≡◌, ℕ, ◌<◌, ◌≤◌, Bool, true, false, cond, not, ◌&&◌, ◌||◌, length, slice_get, Option, Some, None, refl, sym, ap, ◌∙◌, subst, inl}
+use Rattle.std.proofs.Common.{inr, arith}
 use Rattle.std.specs.Prelude.{option_map, option_and_then}
 use Rattle.std.proofs.lemmas.Bool.{false≢true, both_ways, cases_lt, eq-eqb, and_from, or_right}
 use Rattle.std.proofs.lemmas.Option.{slice_get_past, slice_get_cases}
@@ -15,7 +16,7 @@ use Rattle.rl_words.specs.declared.lock.Path.{Path}
 use Rattle.rl_train.specs.declared.mind.TrainMind.{TrainMind}
 use Rattle.rl_protocol.specs.Agreement.{Agrees, IsPassing, is_path, is_locked_by, is_passing, is_under_way, place_of}
 use Rattle.rl_protocol.specs.Counts.{HasTrains}
-use Rattle.rl_protocol.specs.Jobs.{begins, passes, has_passed}
+use Rattle.rl_train.specs.Jobs.{is_near, is_pass, has_passed}
 use Rattle.rl_protocol.specs.Line.{Line, is_held_by, same_number}
 use Rattle.rl_protocol.specs.State.{State}
 use Rattle.rl_protocol.specs.Worlds.{IsLineOf}
@@ -60,9 +61,9 @@ path_locked (Locked q) p h = same_path q p h
 
 -- the place at which a train stands is one of its route
 place_within : (steps : ℕ) (m : TrainMind) → m.step ≤ steps → (is_under_way m ≡ true → m.step < steps) → place_of m ≤ steps
-place_within steps m within way = by (has_passed m.job) refl (begins m.job) refl
+place_within steps m within way = by (has_passed m.job) refl (is_near m.job) refl
   where
-    by : (p : Bool) → has_passed m.job ≡ p → (q : Bool) → begins m.job ≡ q → place_of m ≤ steps
+    by : (p : Bool) → has_passed m.job ≡ p → (q : Bool) → is_near m.job ≡ q → place_of m ≤ steps
     by false e q f = rw e within
     by true e true f = absurd (both_ways _ (beginning_place m.job f) e)
     by true e false f = let below = way (or_right m.waits _ (ap not f)) in rw e (omega arith)
@@ -76,7 +77,7 @@ stage_on_route net s t k within (inr (inr (inr (inl at)))) = subst (IsOnRoute ne
 stage_on_route net s t k within (inr (inr (inr (inr at)))) = subst (IsOnRoute net t) (sym at.0) (omega arith)
 
 under_way_passing : (m : TrainMind) → is_passing m ≡ true → is_under_way m ≡ true
-under_way_passing m h = of m.waits (passes m.job) (not (begins m.job)) h
+under_way_passing m h = of m.waits (is_pass m.job) (not (is_near m.job)) h
   where
     of : (waits pass other : Bool) → (waits && pass) ≡ true → (waits || other) ≡ true
     of true pass other h = refl

@@ -1,8 +1,9 @@
 -- After every run each word can be read.
-use Rattle.std.proofs.Common.{◌≡◌, ◌≢◌, ℕ, ◌≤◌, List, [], ◌∷◌, length, Option, Some, option_map, refl, sym, ap, ◌∙◌, subst, inl, inr, arith}
+use Rattle.std.proofs.Common.{◌≡◌, ◌≢◌, ℕ, List, [], ◌∷◌, length, Option, Some, option_map, refl, sym, ap, ◌∙◌, subst, inl, inr, arith}
 use Rattle.std.specs.Option.{option_map_or}
 use Rattle.std.proofs.lemmas.Bool.{cases_eq}
 use Rattle.std.proofs.lemmas.List.{length-set}
+use Rattle.rl_base.specs.Tries.{AreFewTries}
 use Rattle.rl_base.specs.declared.layout.WordKind.{WordKind}
 use Rattle.rl_base.specs.declared.layout.WordKind.TheVariants as kinds
 use Rattle.rl_base.specs.Layout.{word_count, word_number, HasWord}
@@ -20,14 +21,14 @@ use Rattle.rl_tables.specs.declared.table.BoxTable.{BoxTable}
 use Rattle.rl_tables.specs.declared.table.Tables.{Tables}
 use Rattle.rl_tables.specs.Kept.{IsLine}
 use Rattle.rl_tables.specs.Starts.{layout_of, start_resv, start_lock, start_payload}
-use Rattle.rl_runs.specs.Numbers.{word_at}
-use Rattle.rl_runs.specs.Run as runs
-use Rattle.rl_runs.specs.State.{CoreState, after}
-use Rattle.rl_runs.specs.State as cores
-use Rattle.rl_runs.proofs.Numbering.{word_at-number, word_at-some}
-use Rattle.rl_runs.proofs.Options.{same_some}
-use Rattle.rl_runs.proofs.Sounding.{runs_minded}
-use Rattle.rl_runs.proofs.Starts.{start_words-length}
+use Rattle.rl_steps.specs.Numbers.{word_at}
+use Rattle.rl_steps.specs.Run as runs
+use Rattle.rl_steps.specs.State.{CoreState, after}
+use Rattle.rl_steps.specs.State as cores
+use Rattle.rl_steps.proofs.Numbering.{word_at-number, word_at-some}
+use Rattle.rl_steps.proofs.Options.{same_some}
+use Rattle.rl_steps.proofs.Sounding.{runs_minded}
+use Rattle.rl_steps.proofs.Starts.{start_words-length}
 use Rattle.rl_protocol.specs.Agreement.{Agrees}
 use Rattle.rl_protocol.specs.Line.{IsConsistent}
 use Rattle.rl_protocol.specs.TableLine.{line_of}
@@ -88,7 +89,7 @@ after_readable tables tries c e step before kind there differs =
     ]
 
 pub runs_readable : Laws → ReadsValues → Agreeing → (tables : Tables) (tries : ℕ) (events : List Event) → IsLine tables → IsConsistent (line_of tables)
-    → tries ≤ 1000 → runs.IsRun tables tries events → AreReadable tables (runs.state tables tries events)
+    → AreFewTries tries → runs.IsRun tables tries events → AreReadable tables (runs.state tables tries events)
 runs_readable laws values agreeing tables tries [] line fine few run = start_readable values tables tries line
 runs_readable laws values agreeing tables tries (e ∷ earlier) line fine few run =
     let before = run_stepped laws values agreeing tables tries earlier line fine few run.0 in

@@ -1,5 +1,6 @@
 -- A turn answers Rest exactly for a train at rest.
-use Rattle.std.proofs.Common.{◌≡◌, ◌↔◌, ℕ, ◌<◌, ◌==◌, Bool, true, false, not, ◌&&◌, ◌||◌, length, slice_get, Option, Some, None, option_map, refl, sym, ap, ◌∙◌, if◌then◌else◌, arith}
+use Rattle.std.proofs.Common.{◌≡◌, ◌↔◌, ℕ, ◌<◌, ◌==◌, Bool, true, false, not, ◌&&◌, ◌||◌, length, slice_get, Option, Some, None, option_map, refl, sym, ap, ◌∙◌}
+use Rattle.std.proofs.Common.{if◌then◌else◌, arith}
 use Rattle.std.proofs.lemmas.Bool.Decides.{nat_tests}
 use Rattle.rl_base.specs.declared.layout.Layout.{Layout}
 use Rattle.rl_base.specs.declared.layout.NodeKind.{NodeKind}
@@ -12,21 +13,20 @@ use Rattle.rl_tables.specs.declared.table.Tables.{Tables}
 use Rattle.rl_tables.specs.declared.table.TrainTable.{TrainTable}
 use Rattle.rl_tables.specs.Starts.{layout_of}
 use Rattle.rl_train.specs.declared.mind.TrainMind.{TrainMind}
-use Rattle.rl_train.specs.Jobs.{is_near, is_pass}
-use Rattle.rl_train.specs.Mind.{is_resting}
+use Rattle.rl_train.specs.Mind.{at_rest}
 use Rattle.rl_train.specs.Steps.{train_target}
-use Rattle.rl_runs.specs.declared.mind.Mind.{Mind}
-use Rattle.rl_runs.specs.declared.mind.Mind.TheVariants.{Train, Track, Box, Machine}
-use Rattle.rl_runs.specs.Numbers.{node_at}
-use Rattle.rl_runs.specs.Sound.{IsMindOf}
-use Rattle.rl_runs.specs.State.{CoreState, event_of}
-use Rattle.rl_runs.specs.Step.{target_of}
-use Rattle.rl_runs.specs.Turn.{Drive, answer_at, answer_of_target, target_in}
-use Rattle.rl_runs.proofs.Sounding.{AreMinded}
-use Rattle.rl_runs.proofs.ByKind.{train_target_at, track_target_at, box_target_at, machine_target_at}
-use Rattle.rl_runs.proofs.Numbering.{node_at-some}
-use Rattle.rl_protocol.specs.Jobs.{begins}
-use Rattle.rl_protocol.specs.Minds.{at_rest}
+use Rattle.rl_steps.specs.declared.mind.Mind.{Mind}
+use Rattle.rl_steps.specs.declared.mind.Mind.TheVariants.{Train, Track, Box, Machine}
+use Rattle.rl_steps.specs.Numbers.{node_at}
+use Rattle.rl_steps.specs.Sound.{IsMindOf}
+use Rattle.rl_steps.specs.State.{CoreState, event_of}
+use Rattle.rl_steps.specs.Step.{target_of}
+use Rattle.rl_steps.specs.Turn.{Drive, answer_at, answer_of_target, target_in}
+use Rattle.rl_steps.proofs.Sounding.{AreMinded}
+use Rattle.rl_steps.proofs.ByKind.{train_target_at, track_target_at, box_target_at, machine_target_at}
+use Rattle.rl_steps.proofs.Numbering.{node_at-some}
+use Rattle.rl_train.specs.Jobs.{is_near, is_pass}
+use Rattle.rl_protocol.specs.Minds.{at_rest as line_at_rest}
 use Rattle.rl_protocol.specs.TableLine.{line_of}
 use Rattle.rl_protocol.proofs.Moved.{item_there}
 use Rattle.rl_safety.specs.Rests.{IsTrainAtRest}
@@ -39,18 +39,17 @@ swapped false false c = refl
 
 -- whether a train rests, by its own table
 pub rest_is : (tables : Tables) (t : ℕ) (x : TrainTable) (m : TrainMind) → slice_get tables.trains t ≡ Some x
-    → at_rest (line_of tables) t m ≡ is_resting x m
-unfolding begins
+    → line_at_rest (line_of tables) t m ≡ at_rest x m
 rest_is tables t x m there = rw there (swapped (not m.waits) (is_near m.job) (m.step == length x.rows || m.left == 0))
 
 -- a train looks at no word exactly at rest
-no_target : (x : TrainTable) (m : TrainMind) (lay : Layout) → option_map (word_number lay) (train_target x m) ≡ None → is_resting x m ≡ true
-no_target x m lay none = by (is_resting x m) (is_pass m.job) refl none
+no_target : (x : TrainTable) (m : TrainMind) (lay : Layout) → option_map (word_number lay) (train_target x m) ≡ None → at_rest x m ≡ true
+no_target x m lay none = by (at_rest x m) (is_pass m.job) refl none
   where
-    by : (rests pass : Bool) → is_resting x m ≡ rests
+    by : (rests pass : Bool) → at_rest x m ≡ rests
         → option_map (word_number lay) (if rests then None else
         (if pass then Some (if m.waits then kinds.Sense x.number else kinds.Run x.number) else Some (kinds.Mail x.number))) ≡ None
-        → is_resting x m ≡ true
+        → at_rest x m ≡ true
     by true pass is none = is
     by false true is none = absurd (cc)
     by false false is none = absurd (cc)
@@ -95,7 +94,7 @@ module _ (tables : Tables) (c : CoreState) (n scan : ℕ) where
   without_target : IsTrainAtRest tables c n → target_of tables n (c.minds n) scan ≡ None
   without_target resting =
       let x = item_there tables.trains resting.train.0 (node_at-some (layout_of tables) n (nodes.Train resting.train) resting.node).0 in
-      let rests : is_resting x.0 resting.mind ≡ true = sym (rest_is tables resting.train.0 x.0 resting.mind x.1) ∙ resting.rests in
+      let rests : at_rest x.0 resting.mind ≡ true = sym (rest_is tables resting.train.0 x.0 resting.mind x.1) ∙ resting.rests in
       let none : train_target x.0 resting.mind ≡ None = rw rests refl in
       ap (λ k. target_of tables n k scan) resting.has ∙ train_target_at tables n scan resting.train x.0 resting.mind resting.node x.1
       ∙ ap (option_map (word_number (layout_of tables))) none

@@ -1,10 +1,12 @@
 -- Every run of events is a run of steps of the protocol.
-use Rattle.std.proofs.Common.{◌≡◌, ℕ, zero, suc, ◌+◌, ◌<◌, ◌≤◌, ◌==◌, Bool, true, false, not, ◌&&◌, ◌||◌, List, [], ◌∷◌, length, slice_get, Option, Some, None, option_and_then, refl, sym, ap, ◌∙◌, subst, inl, inr, arith}
+use Rattle.std.proofs.Common.{◌≡◌, ℕ, zero, suc, ◌+◌, ◌<◌, ◌==◌, Bool, true, false, not, ◌&&◌, ◌||◌, List, [], ◌∷◌, length, slice_get, Option, Some, None}
+use Rattle.std.proofs.Common.{option_and_then, refl, sym, ap, ◌∙◌, subst, inl, inr, arith}
 use Rattle.std.specs.Prelude.{unwrap_or, cond, count_by}
 use Rattle.std.proofs.lemmas.List.Sums.{sum_by-append}
 use Rattle.std.specs.Option.{option_map_or}
 use Rattle.std.proofs.lemmas.Bool.{cases_eq, ne_eqb}
 use Rattle.std.proofs.lemmas.Bool.Decides.{nat_tests}
+use Rattle.rl_base.specs.Tries.{AreFewTries}
 use Rattle.rl_base.specs.declared.ids.BoxId.{BoxId}
 use Rattle.rl_base.specs.declared.ids.TrainId.{TrainId}
 use Rattle.rl_base.specs.declared.layout.Layout.{Layout}
@@ -20,32 +22,30 @@ use Rattle.rl_tables.specs.declared.table.TrainTable.{TrainTable}
 use Rattle.rl_tables.specs.declared.table.Tables.{Tables}
 use Rattle.rl_tables.specs.Kept.{IsLine}
 use Rattle.rl_tables.specs.Starts.{layout_of}
-use Rattle.rl_runs.specs.declared.mind.Mind.{Mind}
-use Rattle.rl_runs.specs.declared.mind.Mind.TheVariants.{Train, Track, Box, Machine}
-use Rattle.rl_runs.specs.Numbers.{node_at, word_at}
-use Rattle.rl_runs.specs.Sound.{IsMindOf}
-use Rattle.rl_runs.specs.Step.{node_step, step_of}
-use Rattle.rl_runs.specs.State.{CoreState}
-use Rattle.rl_runs.specs.Run as runs
-use Rattle.rl_runs.proofs.Keeping.{StepsKeep}
-use Rattle.rl_runs.proofs.Made.{IsMade, fits_made}
-use Rattle.rl_runs.proofs.Numbering.{node_at-some, word_at-some}
-use Rattle.rl_runs.proofs.Options.{from_then, same_some}
-use Rattle.rl_runs.proofs.Sounding.{AreMinded, runs_minded}
+use Rattle.rl_steps.specs.declared.mind.Mind.{Mind}
+use Rattle.rl_steps.specs.declared.mind.Mind.TheVariants.{Train, Track, Box, Machine}
+use Rattle.rl_steps.specs.Numbers.{node_at, word_at}
+use Rattle.rl_steps.specs.Sound.{IsMindOf}
+use Rattle.rl_steps.specs.Step.{node_step, step_of}
+use Rattle.rl_steps.specs.State.{CoreState}
+use Rattle.rl_steps.specs.Run as runs
+use Rattle.rl_steps.proofs.Keeping.{StepsKeep}
+use Rattle.rl_steps.proofs.Made.{IsMade, fits_made}
+use Rattle.rl_steps.proofs.Numbering.{node_at-some, word_at-some}
+use Rattle.rl_steps.proofs.Options.{from_then, same_some}
+use Rattle.rl_steps.proofs.Sounding.{AreMinded, runs_minded}
 use Rattle.rl_protocol.specs.Agreement.{Agrees, IsPassing, is_passing}
 use Rattle.rl_protocol.specs.Counts.{same_node, events_of}
-use Rattle.rl_protocol.specs.Jobs.{passes}
+use Rattle.rl_train.specs.Jobs.{is_pass}
 use Rattle.rl_protocol.specs.Line.{Line, IsConsistent}
 use Rattle.rl_protocol.specs.Nodes.{node_of}
 use Rattle.rl_protocol.specs.Runs as protocol
 use Rattle.rl_protocol.specs.State.{State}
-use Rattle.rl_protocol.specs.Steps.{Step, Fits, next}
-use Rattle.rl_protocol.specs.TableLine.{line_of, no_row}
+use Rattle.rl_protocol.specs.Steps.{Step, StepFits, next}
+use Rattle.rl_protocol.specs.TableLine.{line_of, no_row, row_at}
 use Rattle.rl_safety.specs.Counts.{events_by}
-use Rattle.rl_safety.specs.Railway.{row_at}
 use Rattle.rl_safety.specs.Stepped.{IsStepped}
 use Rattle.rl_safety.specs.Reading.{read, payload_of}
-use Rattle.rl_safety.proofs.BoxLabels.{KeepsArms}
 use Rattle.rl_safety.proofs.Events.{ReadsWords, IsStepAt, IsEventStep, from_step, train_event, track_event, box_event, machine_event}
 use Rattle.rl_safety.proofs.Payloads.{payload_read}
 use Rattle.rl_safety.proofs.Started.{ReadsValues, start_read}
@@ -54,13 +54,12 @@ use Rattle.rl_safety.proofs.Started.{ReadsValues, start_read}
 pub record Laws : Type 0 where
   pub steps : StepsKeep
   pub words : ReadsWords
-  pub arms : KeepsArms
 
 -- a step that a route has
-row_in : (o : Option TrainTable) (k : ℕ) → k < option_map_or (λ (x : TrainTable). length x.rows) o 0
+row_within : (o : Option TrainTable) (k : ℕ) → k < option_map_or (λ (x : TrainTable). length x.rows) o 0
     → option_and_then (λ (x : TrainTable). slice_get x.rows k) o ≡ Some (unwrap_or (option_and_then (λ (x : TrainTable). slice_get x.rows k) o) no_row)
-row_in None k within = absurd (omega arith)
-row_in (Some x) k within = in_list x.rows k within
+row_within None k within = absurd (omega arith)
+row_within (Some x) k within = in_list x.rows k within
   where
     in_list : (rows : List StepRow) (j : ℕ) → j < length rows → slice_get rows j ≡ Some (unwrap_or (slice_get rows j) no_row)
     in_list [] j h = absurd (omega arith)
@@ -68,7 +67,7 @@ row_in (Some x) k within = in_list x.rows k within
     in_list (r ∷ rest) (suc j) h = in_list rest j (omega arith)
 
 row_there : (tables : Tables) (t k : ℕ) → k < (line_of tables).steps t → row_at tables t k ≡ Some ((line_of tables).row t k)
-row_there tables t k within = row_in (slice_get tables.trains t) k within
+row_there tables t k within = row_within (slice_get tables.trains t) k within
 
 -- a train that is to go or is across is at a step of its route
 waits_of : (waits pass : Bool) → (waits && pass) ≡ true → (begins : Bool) → (waits || not begins) ≡ true
@@ -96,7 +95,7 @@ goes_on_route line tries s t k agrees is = by (is_passing (s.trains t)) refl
     by false e = absurd (cc (((agrees.passage t).stands e).0))
     by true e =
         let same : k ≡ (s.trains t).step = at_go s t (s.trains t).step k ((agrees.passage t).passing e) is in
-        let way = (agrees.attempts t).under_way (waits_of (s.trains t).waits (passes (s.trains t).job) e _) in
+        let way = (agrees.attempts t).under_way (waits_of (s.trains t).waits (is_pass (s.trains t).job) e _) in
         omega (arith, same, way)
 
 across_on_route : (line : Line) (tries : ℕ) (s : State) (t k : ℕ) → Agrees line tries s → s.run t ≡ Across k → k < line.steps t
@@ -106,7 +105,7 @@ across_on_route line tries s t k agrees is = by (is_passing (s.trains t)) refl
     by false e = absurd (cc (((agrees.passage t).stands e).0))
     by true e =
         let same : k ≡ (s.trains t).step = at_across s t (s.trains t).step k ((agrees.passage t).passing e) is in
-        let way = (agrees.attempts t).under_way (waits_of (s.trains t).waits (passes (s.trains t).job) e _) in
+        let way = (agrees.attempts t).under_way (waits_of (s.trains t).waits (is_pass (s.trains t).job) e _) in
         omega (arith, same, way)
 
 -- the step of any node
@@ -129,7 +128,7 @@ node_event laws tables tries c (nodes.Track t) (Machine m) kind payload made lin
 node_event laws tables tries c (nodes.Box b) (Train m) kind payload made line agrees there has mind sound is step = absurd sound
 node_event laws tables tries c (nodes.Box b) (Track m) kind payload made line agrees there has mind sound is step = absurd sound
 node_event laws tables tries c (nodes.Box b) (Box m) kind payload made line agrees there has mind sound is step =
-    box_event laws.steps laws.words laws.arms tables tries c b m kind payload made line has there mind sound is step
+    box_event laws.steps laws.words tables tries c b m kind payload made line has there mind sound is step
 node_event laws tables tries c (nodes.Box b) (Machine m) kind payload made line agrees there has mind sound is step = absurd sound
 node_event laws tables tries c (nodes.Machine b) (Train m) kind payload made line agrees there has mind sound is step = absurd sound
 node_event laws tables tries c (nodes.Machine b) (Track m) kind payload made line agrees there has mind sound is step = absurd sound
@@ -207,11 +206,11 @@ by_number lay m n x y at_m at_n =
 -- what is so of steps, by the protocol's own law
 abbrev pub Agreeing : Type 0
 Agreeing =
-    (line : Line) (tries : ℕ) (steps : List Step) → IsConsistent line → protocol.IsRun line tries steps
+    (line : Line) (tries : ℕ) (steps : List Step) → IsConsistent line → protocol.IsStepRun line tries steps
     → Agrees line tries (protocol.state_after line tries steps)
 
 pub run_stepped : Laws → ReadsValues → Agreeing → (tables : Tables) (tries : ℕ) (events : List Event) → IsLine tables → IsConsistent (line_of tables)
-    → tries ≤ 1000 → runs.IsRun tables tries events → IsStepped tables tries events
+    → AreFewTries tries → runs.IsRun tables tries events → IsStepped tables tries events
 run_stepped laws values agreeing tables tries [] line fine few run =
     record { steps = []; run = tt; state = start_read values tables tries line; moves = refl; count = refl; by = λ n node at. refl }
 run_stepped laws values agreeing tables tries (e ∷ earlier) line fine few run =
@@ -221,7 +220,7 @@ run_stepped laws values agreeing tables tries (e ∷ earlier) line fine few run 
     subst (Agrees (line_of tables) tries) (sym before.state) agrees_there in
     let minded = runs_minded laws.steps tables tries earlier line few run.0 in
     let made = event_step laws tables tries (runs.state tables tries earlier) e line minded agrees run.1 in
-    let F : State → Type 0 = λ s. Fits (line_of tables) s made.step in
+    let F : State → Type 0 = λ s. StepFits (line_of tables) s made.step in
     record {
       steps = made.step ∷ before.steps;
       run = (before.run, subst F before.state made.fits);

@@ -1,11 +1,13 @@
 -- The state read at the start is the start of the protocol.
-use Rattle.std.proofs.Common.{◌≡◌, ◌⊎◌, ℕ, zero, suc, ◌^◌, ◌%◌, ◌/◌, ◌<◌, ◌≤◌, nat_lt, true, false, slice_get, slice_index_or, Option, Some, None, option_map, option_and_then, refl, sym, ap, ◌∙◌, inl, inr, arith}
+use Rattle.std.proofs.Common.{◌≡◌, ◌⊎◌, ℕ, zero, suc, ◌^◌, ◌%◌, ◌/◌, ◌<◌, ◌≤◌, nat_lt, true, false, slice_get, slice_index_or, Option, Some, None, option_map}
+use Rattle.std.proofs.Common.{option_and_then, refl, sym, ap, ◌∙◌, inl, inr, arith}
 use Rattle.std.specs.Prelude.{unwrap_or}
 use Rattle.std.specs.Option.{option_map_or}
 use Rattle.std.proofs.Math.Path.{fun_ext}
 use Rattle.std.proofs.lemmas.Bool.{cases_lt}
 use Rattle.std.proofs.lemmas.Bool.Decides.{nat_tests}
 use Rattle.std.proofs.lemmas.Option.{slice_get_past, get_or_from_slice_get}
+use Rattle.rl_base.specs.Numbers.{IsU32}
 use Rattle.rl_base.specs.declared.ids.SegId.{SegId}
 use Rattle.rl_base.specs.declared.ids.TrainId.{TrainId}
 use Rattle.rl_base.specs.declared.kind.Side.TheVariants.{Left}
@@ -33,19 +35,18 @@ use Rattle.rl_words.specs.Stamps.{payload_in}
 use Rattle.rl_tables.specs.declared.table.BoxTable.{BoxTable}
 use Rattle.rl_tables.specs.declared.table.Tables.{Tables}
 use Rattle.rl_tables.specs.Kept.{IsLine}
-use Rattle.rl_tables.specs.Starts.{layout_of, holder_of, arm_holder, start_resv, start_lock, start_payload}
+use Rattle.rl_tables.specs.Starts.{layout_of, starter_of, arm_holder, start_resv, start_lock, start_payload}
 use Rattle.rl_tables.specs.Tables.{segment_number}
-use Rattle.rl_runs.specs.Numbers.{node_at, train, box}
-use Rattle.rl_runs.specs.State as cores
-use Rattle.rl_runs.specs.State.{start_mind, start_mind_of, start_word, start_words}
-use Rattle.rl_runs.proofs.Beginning.{start_fits, holder_fits}
-use Rattle.rl_runs.proofs.Numbering.{node_at-number, word_at-number}
-use Rattle.rl_runs.proofs.Starts.{start_words-get}
+use Rattle.rl_steps.specs.Numbers.{node_at, train, box}
+use Rattle.rl_steps.specs.State as cores
+use Rattle.rl_steps.specs.State.{start_mind, start_mind_of, start_word, start_words}
+use Rattle.rl_steps.proofs.Beginning.{start_fits, holder_fits}
+use Rattle.rl_steps.proofs.Numbering.{node_at-number, word_at-number}
+use Rattle.rl_steps.proofs.Starts.{start_words-get}
 use Rattle.rl_protocol.specs.State as protocol
-use Rattle.rl_protocol.specs.State.{State}
 use Rattle.rl_protocol.specs.TableLine.{line_of}
 use Rattle.rl_safety.specs.Reading as reading
-use Rattle.rl_safety.specs.Reading.{read, payload_of, has_word, train_of, track_of, box_of, train_mind, track_mind, box_mind, lock_in, mail_in, run_in, sense_in, holder_in}
+use Rattle.rl_safety.specs.Reading.{read, payload_of, has_word, train_of, track_of, box_of, track_mind, box_mind, lock_in, mail_in, run_in, sense_in, resv_in}
 use Rattle.rl_safety.proofs.Effects.{same_state}
 
 -- the laws of the words that are needed here
@@ -100,7 +101,7 @@ number_within lay (kinds.Mail t) h = omega arith
 number_within lay (kinds.Run t) h = omega arith
 number_within lay (kinds.Sense t) h = omega arith
 
-payload_small : (v : ℕ) → v < 2 ^ 32 → payload_in v ≡ v
+payload_small : (v : ℕ) → IsU32 v → payload_in v ≡ v
 payload_small v small =
     let one : v / 1 ≡ v = omega arith in
     let rest : v % 2 ^ 32 ≡ v = omega arith in
@@ -183,9 +184,9 @@ locks_start laws tables tries line =
 -- reservations
 arm_fits : (tables : Tables) (s : Option SegId) → IsLine tables → FitsArm (arm_holder tables s)
 arm_fits tables None line = tt
-arm_fits tables (Some s) line = of (holder_of tables s.0) refl
+arm_fits tables (Some s) line = of (starter_of tables s.0) refl
   where
-    of : (o : Option TrainId) → holder_of tables s.0 ≡ o → FitsArm o
+    of : (o : Option TrainId) → starter_of tables s.0 ≡ o → FitsArm o
     of None e = tt
     of (Some t) e = holder_fits tables s.0 t line e
 
@@ -193,18 +194,19 @@ pub resv_fits : (tables : Tables) (x : BoxTable) → IsLine tables → FitsResv 
 resv_fits tables x line =
     record { arm0 = arm_fits tables x.seg0 line; arm1 = arm_fits tables x.seg1 line; arm2 = arm_fits tables x.seg2 line; arm3 = arm_fits tables x.seg3 line }
 
-arm_is : (tables : Tables) (s : Option SegId) → arm_holder tables s ≡ option_and_then (holder_of tables) (option_map (λ (g : SegId). g.0) s)
+arm_is : (tables : Tables) (s : Option SegId) → arm_holder tables s ≡ option_and_then (starter_of tables) (option_map (λ (g : SegId). g.0) s)
 arm_is tables None = refl
 arm_is tables (Some s) = refl
 
-arms_are : (tables : Tables) (x : BoxTable) (i : ℕ) → reading.holder_of (Some (start_resv tables x)) i ≡ option_and_then (holder_of tables) (segment_number x i)
+arms_are : (tables : Tables) (x : BoxTable) (i : ℕ)
+    → reading.holder_read (Some (start_resv tables x)) i ≡ option_and_then (starter_of tables) (segment_number x i)
 arms_are tables x zero = arm_is tables x.seg0
 arms_are tables x (suc zero) = arm_is tables x.seg1
 arms_are tables x (suc (suc zero)) = arm_is tables x.seg2
 arms_are tables x (suc (suc (suc zero))) = arm_is tables x.seg3
 arms_are tables x (suc (suc (suc (suc i)))) = let beyond : nat_lt (suc (suc (suc (suc i)))) 4 ≡ false = grind (arith, nat_tests) in rw beyond refl
 
-no_arms : (i : ℕ) → (let none : ResvWord = record { arm0 = None; arm1 = None; arm2 = None; arm3 = None } in reading.holder_of (Some none) i) ≡ None
+no_arms : (i : ℕ) → (let none : ResvWord = record { arm0 = None; arm1 = None; arm2 = None; arm3 = None } in reading.holder_read (Some none) i) ≡ None
 no_arms zero = refl
 no_arms (suc zero) = refl
 no_arms (suc (suc zero)) = refl
@@ -212,25 +214,25 @@ no_arms (suc (suc (suc zero))) = refl
 no_arms (suc (suc (suc (suc i)))) = let beyond : nat_lt (suc (suc (suc (suc i)))) 4 ≡ false = grind (arith, nat_tests) in rw beyond refl
 
 resv_start : ReadsValues → (tables : Tables) (o : Option BoxTable) (i : ℕ) → IsLine tables
-    → reading.holder_of (read_resv (option_map_or (λ x. packed_resv (start_resv tables x)) o 0)) i
-    ≡ option_and_then (holder_of tables) (option_and_then (λ (x : BoxTable). segment_number x i) o)
+    → reading.holder_read (read_resv (option_map_or (λ x. packed_resv (start_resv tables x)) o 0)) i
+    ≡ option_and_then (starter_of tables) (option_and_then (λ (x : BoxTable). segment_number x i) o)
 resv_start laws tables None i line =
     let none : ResvWord = record { arm0 = None; arm1 = None; arm2 = None; arm3 = None } in
-    ap (λ o. reading.holder_of o i) (laws.resv (record { arm0 = None; arm1 = None; arm2 = None; arm3 = None })
+    ap (λ o. reading.holder_read o i) (laws.resv (record { arm0 = None; arm1 = None; arm2 = None; arm3 = None })
     (record { arm0 = tt; arm1 = tt; arm2 = tt; arm3 = tt })) ∙ no_arms i
-resv_start laws tables (Some x) i line = ap (λ o. reading.holder_of o i) (laws.resv (start_resv tables x) (resv_fits tables x line)) ∙ arms_are tables x i
+resv_start laws tables (Some x) i line = ap (λ o. reading.holder_read o i) (laws.resv (start_resv tables x) (resv_fits tables x line)) ∙ arms_are tables x i
 
 resvs_start : ReadsValues → (tables : Tables) (tries : ℕ) → IsLine tables
-    → holder_in tables (cores.start tables tries) ≡ (protocol.start (line_of tables) tries).resv
+    → resv_in tables (cores.start tables tries) ≡ (protocol.start (line_of tables) tries).resv
 resvs_start laws tables tries line =
     fun_ext (λ b. fun_ext (λ i. elim (within_or_not b (layout_of tables).boxes) [
       | inl there ↦
-          ap (λ n. reading.holder_of (read_resv n) i) (payload_start tables tries (kinds.Resv (box b)) line there.0 there.1)
+          ap (λ n. reading.holder_read (read_resv n) i) (payload_start tables tries (kinds.Resv (box b)) line there.0 there.1)
           ∙ resv_start laws tables (slice_get tables.boxes b) i line
       | inr past ↦
           let absent : slice_get tables.boxes b ≡ None = slice_get_past tables.boxes b past.1 in
-          ap (λ n. reading.holder_of (read_resv n) i) (payload_absent tables tries (kinds.Resv (box b)) past.0)
-          ∙ (resv_start laws tables None i line ∙ ap (λ (o : Option BoxTable). option_and_then (holder_of tables)
+          ap (λ n. reading.holder_read (read_resv n) i) (payload_absent tables tries (kinds.Resv (box b)) past.0)
+          ∙ (resv_start laws tables None i line ∙ ap (λ (o : Option BoxTable). option_and_then (starter_of tables)
           (option_and_then (λ (x : BoxTable). segment_number x i) o)) (sym absent))
     ]))
 

@@ -11,8 +11,7 @@ use Rattle.rl_tables.specs.declared.table.StepRow.{StepRow}
 use Rattle.rl_tables.specs.declared.table.TrainTable.{TrainTable}
 use Rattle.rl_tables.specs.declared.table.Tables.{Tables}
 use Rattle.rl_train.specs.declared.mind.TrainMind.{TrainMind}
-use Rattle.rl_train.specs.Jobs.{letter, after_no, is_pass, is_near}
-use Rattle.rl_train.specs.Mind.{row_of, is_resting}
+use Rattle.rl_train.specs.Mind.{row_of, at_rest}
 use Rattle.rl_train.specs.Steps as trains
 use Rattle.rl_train.specs.Steps.{TrainStep}
 use Rattle.rl_train.specs.Steps.TrainStep.{post, hear_yes, hear_no, go, quiet}
@@ -20,14 +19,15 @@ use Rattle.rl_track.specs.declared.track.TrackMind.{TrackMind}
 use Rattle.rl_track.specs.declared.track.TrackPhase.TheVariants.{Watch, LeaveDue}
 use Rattle.rl_track.specs.Track.{TrackStep, track_at}
 use Rattle.rl_track.specs.Track.TrackStep.{enter, head, leave, tail}
-use Rattle.rl_runs.specs.declared.mind.Mind.TheVariants.{Train, Track}
-use Rattle.rl_protocol.specs.Jobs.{letter_at, job_after_yes, job_after_no, passes, begins, finishes}
+use Rattle.rl_steps.specs.declared.mind.Mind.TheVariants.{Train, Track}
+use Rattle.rl_train.specs.Jobs.{letter, after_yes, after_no, is_pass, is_near}
 use Rattle.rl_protocol.specs.Minds as minds
 use Rattle.rl_protocol.specs.State.{State}
-use Rattle.rl_protocol.specs.Steps.Step.{post as post_label, hear_yes as hear_yes_label, hear_no as hear_no_label, go as go_label, quiet as quiet_label, enter as enter_label, head as head_label, leave as leave_label, tail as tail_label}
-use Rattle.rl_protocol.specs.TableLine.{line_of}
-use Rattle.rl_safety.specs.Railway.{row_at}
-use Rattle.rl_safety.specs.Labels.{IsLabel, Says}
+use Rattle.rl_protocol.specs.Steps.Step.{post as post_label, hear_yes as hear_yes_label, hear_no as hear_no_label, go as go_label, quiet as quiet_label}
+use Rattle.rl_protocol.specs.Steps.Step.{enter as enter_label, head as head_label, leave as leave_label, tail as tail_label}
+use Rattle.rl_protocol.specs.TableLine.{line_of, row_at}
+use Rattle.rl_protocol.specs.Sentences.{StateSays}
+use Rattle.rl_safety.specs.Labels.{IsLabel}
 
 -- a train of the tables, as the state has it
 pub record IsTrainHere (tables : Tables) (s : State) (x : TrainTable) (m : TrainMind) : Type 0 where
@@ -41,45 +41,37 @@ swapped true false c e = refl
 swapped false true c e = refl
 swapped false false c e = refl
 
-rests_not : (tables : Tables) (s : State) (x : TrainTable) (m : TrainMind) → IsTrainHere tables s x m → is_resting x m ≡ false
+rests_not : (tables : Tables) (s : State) (x : TrainTable) (m : TrainMind) → IsTrainHere tables s x m → at_rest x m ≡ false
     → minds.at_rest (line_of tables) x.number.0 m ≡ false
-unfolding begins
 rests_not tables s x m here not_resting = rw here.steps (swapped (is_near m.job) (not m.waits) (m.step == length x.rows || m.left == 0) not_resting)
 
 letter_is : (tables : Tables) (s : State) (x : TrainTable) (m : TrainMind) (row : StepRow) (l : Letter) → IsTrainHere tables s x m
     → row_of x m ≡ Some row → letter row m.job ≡ Some l → minds.letter_of (line_of tables) x.number.0 m ≡ Some l
-unfolding letter_at
 letter_is tables s x m row l here is_row is_letter = rw (here.row row is_row) is_letter
-
-posted_is : (m : TrainMind) → minds.posted m ≡ trains.posted m
-unfolding begins
-posted_is m = refl
 
 heard_is : (tables : Tables) (s : State) (x : TrainTable) (m : TrainMind) (row : StepRow) → IsTrainHere tables s x m → row_of x m ≡ Some row
     → minds.heard (line_of tables) x.number.0 m ≡ trains.heard row m
-unfolding job_after_yes finishes
 heard_is tables s x m row here is_row = rw (here.row row is_row) refl
 
 after_no_is : (tables : Tables) (s : State) (x : TrainTable) (m : TrainMind) (row : StepRow) (job : Job) → IsTrainHere tables s x m
-    → row_of x m ≡ Some row → after_no row m.job ≡ Some job → job_after_no (minds.row_of (line_of tables) x.number.0 m) m.job ≡ Some job
-unfolding job_after_no
+    → row_of x m ≡ Some row → after_no row m.job ≡ Some job → after_no (minds.row_of (line_of tables) x.number.0 m) m.job ≡ Some job
 after_no_is tables s x m row job here is_row is_job = rw (here.row row is_row) is_job
 
-passes_is : (m : TrainMind) → m.job ≡ Pass → passes m.job ≡ true
-unfolding passes
+passes_is : (m : TrainMind) → m.job ≡ Pass → is_pass m.job ≡ true
+unfolding is_pass
 passes_is m is = rw is refl
 
 passed_is : (tables : Tables) (t : ℕ) (m : TrainMind) → m.job ≡ Pass → minds.passed (line_of tables) t m ≡ record m { waits = false; job = Unlock }
-unfolding job_after_yes
+unfolding after_yes
 passed_is tables t m is = rw is refl
 
-pub train_label : (tables : Tables) (s : State) (x : TrainTable) (m after : TrainMind) (seen left : Word) → IsTrainHere tables s x m → Says s seen
+pub train_label : (tables : Tables) (s : State) (x : TrainTable) (m after : TrainMind) (seen left : Word) → IsTrainHere tables s x m → StateSays s seen
     → TrainStep x m seen left after → IsLabel tables s (nodes.Train x.number) (Train after) seen left
 train_label tables s x m after seen left here says (post row l is_row is_letter waits rests) =
     record {
       step = post_label x.number.0 l;
       fits = (rw here.mind waits, rw here.mind (rests_not tables s x m here rests), rw here.mind (letter_is tables s x m row l here is_row is_letter), says);
-      leaves = rw (here.mind, posted_is m) refl;
+      leaves = rw here.mind refl;
       moves = refl;
       by = refl;
     }
@@ -123,7 +115,7 @@ train_label tables s x m after seen left here says (quiet is_pass waits) =
     }
 
 -- the track of a train, which passes a step that the train has
-pub track_label : (tables : Tables) (s : State) (t : TrainId) (m after : TrackMind) (seen left : Word) → s.tracks t.0 ≡ m → Says s seen
+pub track_label : (tables : Tables) (s : State) (t : TrainId) (m after : TrackMind) (seen left : Word) → s.tracks t.0 ≡ m → StateSays s seen
     → ((k : ℕ) → m ≡ track_at k Watch → s.run t.0 ≡ Go k → row_at tables t.0 k ≡ Some ((line_of tables).row t.0 k))
     → ((k : ℕ) → m ≡ track_at k LeaveDue → s.run t.0 ≡ Across k → row_at tables t.0 k ≡ Some ((line_of tables).row t.0 k))
     → TrackStep t m seen left after → IsLabel tables s (nodes.Track t) (Track after) seen left

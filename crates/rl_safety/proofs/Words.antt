@@ -1,8 +1,9 @@
 -- What the words say after an event: the new value at its word, and the old one at every other.
-use Rattle.std.proofs.Common.{◌≡◌, ℕ, ◌^◌, ◌<◌, ◌==◌, true, slice_get, Option, Some, unwrap_or, refl, sym, ap, ◌∙◌, inl, inr, if◌then◌else◌, arith}
+use Rattle.std.proofs.Common.{◌≡◌, ℕ, ◌==◌, true, slice_get, Option, Some, unwrap_or, refl, sym, ap, ◌∙◌, inl, inr, if◌then◌else◌, arith}
 use Rattle.std.proofs.Math.Path.{fun_ext}
 use Rattle.std.proofs.lemmas.Bool.{cases_eq, ne_eqb}
 use Rattle.std.proofs.lemmas.Bool.Decides.{nat_tests}
+use Rattle.rl_base.specs.Numbers.{IsU32}
 use Rattle.rl_base.specs.declared.ids.BoxId.{BoxId}
 use Rattle.rl_base.specs.declared.ids.TrainId.{TrainId}
 use Rattle.rl_base.specs.declared.layout.WordKind.{WordKind}
@@ -22,10 +23,10 @@ use Rattle.rl_words.specs.Readings.{read_resv, read_lock, read_mail, read_run, r
 use Rattle.rl_words.specs.Stamps.{stamped}
 use Rattle.rl_tables.specs.declared.table.Tables.{Tables}
 use Rattle.rl_tables.specs.Starts.{layout_of}
-use Rattle.rl_runs.specs.Numbers.{word_at, train, box}
-use Rattle.rl_runs.specs.State.{CoreState, after}
+use Rattle.rl_steps.specs.Numbers.{word_at, train, box}
+use Rattle.rl_steps.specs.State.{CoreState, after}
 use Rattle.rl_protocol.specs.State.{put}
-use Rattle.rl_safety.specs.Reading.{payload_of, holder_of, holder_in, lock_in, mail_in, run_in, sense_in}
+use Rattle.rl_safety.specs.Reading.{payload_of, holder_read, resv_in, lock_in, mail_in, run_in, sense_in}
 use Rattle.rl_safety.proofs.Payloads.{payload_changed, payload_kept}
 
 -- the word of the event, and its new payload
@@ -33,7 +34,7 @@ pub record IsOn (tables : Tables) (c : CoreState) (e : Event) (kind : WordKind) 
   pub at : word_at (layout_of tables) e.word.0 ≡ Some kind
   pub was : slice_get c.words e.word.0 ≡ Some e.was
   pub now : e.now ≡ stamped e.stamp new
-  pub small : new < 2 ^ 32
+  pub small : IsU32 new
 
 here : (tables : Tables) (c : CoreState) (e : Event) (kind : WordKind) (new : ℕ) → IsOn tables c e kind new → payload_of tables (after tables c e) kind ≡ new
 here tables c e kind new on = payload_changed tables c e kind new on.at on.was on.now on.small
@@ -128,21 +129,21 @@ senses_new tables c e t v new on reads =
 
 -- reservations
 abbrev pub resv_with : (ℕ → ℕ → Option TrainId) → BoxId → ResvWord → ℕ → ℕ → Option TrainId
-resv_with f b w u x = if u == b.0 then holder_of (Some w) x else f u x
+resv_with f b w u x = if u == b.0 then holder_read (Some w) x else f u x
 
 pub resvs_kept : (tables : Tables) (c : CoreState) (e : Event) (kind : WordKind) (new : ℕ) → IsOn tables c e kind new
-    → ((b : BoxId) → words.Resv b ≡ kind → ⊥) → holder_in tables (after tables c e) ≡ holder_in tables c
+    → ((b : BoxId) → words.Resv b ≡ kind → ⊥) → resv_in tables (after tables c e) ≡ resv_in tables c
 resvs_kept tables c e kind new on differ = fun_ext (λ b. fun_ext (λ x. rw (kept tables c e kind (words.Resv (box b)) new on (differ (box b))) refl))
 
 pub resvs_new : (tables : Tables) (c : CoreState) (e : Event) (b : BoxId) (w : ResvWord) (new : ℕ) → IsOn tables c e (words.Resv b) new
-    → read_resv new ≡ Some w → holder_in tables (after tables c e) ≡ resv_with (holder_in tables c) b w
+    → read_resv new ≡ Some w → resv_in tables (after tables c e) ≡ resv_with (resv_in tables c) b w
 resvs_new tables c e b w new on reads =
     fun_ext (λ u. fun_ext (λ x. elim (cases_eq u b.0) [
       | inl same ↦
-          let mine : holder_of (read_resv (payload_of tables (after tables c e) (words.Resv b))) x ≡ holder_of (Some w) x =
+          let mine : holder_read (read_resv (payload_of tables (after tables c e) (words.Resv b))) x ≡ holder_read (Some w) x =
           rw (here tables c e (words.Resv b) new on, reads) refl in
           let test : (b.0 == b.0) ≡ true = grind (arith, nat_tests) in
-          let back : holder_of (Some w) x ≡ (if b.0 == b.0 then holder_of (Some w) x else holder_of (read_resv (payload_of tables c (words.Resv b))) x) =
+          let back : holder_read (Some w) x ≡ (if b.0 == b.0 then holder_read (Some w) x else holder_read (read_resv (payload_of tables c (words.Resv b))) x) =
           rw test refl in
           rw same (mine ∙ back)
       | inr other ↦

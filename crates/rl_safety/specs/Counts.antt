@@ -2,7 +2,7 @@
 use Rattle.std.specs.Prelude.{ℕ, ◌==◌, List, length, count_by}
 use Rattle.rl_record.specs.declared.event.Event.{Event}
 use Rattle.rl_tables.specs.declared.table.Tables.{Tables}
-use Rattle.rl_runs.specs.Run.{state}
+use Rattle.rl_steps.specs.Run.{state}
 use Rattle.rl_protocol.specs.Counts.{attempts_posted}
 use Rattle.rl_safety.specs.Reading.{read}
 

@@ -1,32 +1,23 @@
 -- An event as a step of the protocol: the step fits the state, leaves the mind and the word of the event, and has its
 -- move.
-use Rattle.std.specs.Prelude.{◌≡◌, ℕ, Some}
+use Rattle.std.specs.Prelude.{◌≡◌}
 use Rattle.rl_base.specs.declared.layout.NodeKind.{NodeKind}
 use Rattle.rl_words.specs.Word.{Word}
-use Rattle.rl_words.specs.Word.Word.{Resv, Lock, Mail, Run, Sense}
 use Rattle.rl_tables.specs.declared.table.Tables.{Tables}
-use Rattle.rl_runs.specs.declared.mind.Mind.{Mind}
+use Rattle.rl_steps.specs.declared.mind.Mind.{Mind}
 use Rattle.rl_protocol.specs.State.{State}
-use Rattle.rl_protocol.specs.Steps.{Step, Fits, next}
+use Rattle.rl_protocol.specs.Sentences.{with_word}
+use Rattle.rl_protocol.specs.Steps.{Step, StepFits, next}
 use Rattle.rl_protocol.specs.StepMoves.{move_of}
 use Rattle.rl_protocol.specs.Nodes.{node_of}
 use Rattle.rl_protocol.specs.TableLine.{line_of}
-use Rattle.rl_safety.specs.Reading.{holder_of}
-use Rattle.rl_safety.specs.Effects.{with_mind, with_word}
+use Rattle.rl_safety.specs.Effects.{with_mind}
 use Rattle.rl_safety.specs.Moves.{word_move}
-
--- the state says of the word what the word says
-abbrev pub Says : State → Word → Type 0
-Says s (Resv b w) = (x : ℕ) → s.resv b.0 x ≡ holder_of (Some w) x
-Says s (Lock b v) = s.lock b.0 ≡ v
-Says s (Mail t v) = s.mail t.0 ≡ v
-Says s (Run t v) = s.run t.0 ≡ v
-Says s (Sense t v) = s.sense t.0 ≡ v
 
 -- a step of the protocol by the node, which then has this mind, from the word seen to the word left
 pub record IsLabel (tables : Tables) (s : State) (node : NodeKind) (mind : Mind) (seen left : Word) : Type 0 where
   pub step : Step
-  pub fits : Fits (line_of tables) s step
+  pub fits : StepFits (line_of tables) s step
   pub leaves : next (line_of tables) s step ≡ with_word (with_mind s node mind) left
   pub moves : move_of (line_of tables) step ≡ word_move tables seen left
   pub by : node_of step ≡ node

@@ -25,8 +25,9 @@ use Rattle.rl_tables.specs.declared.table.StepRow.{StepRow}
 use Rattle.rl_tables.specs.declared.table.Tables.{Tables}
 use Rattle.rl_tables.specs.Kept.{line_kind}
 use Rattle.rl_tables.specs.Starts.{layout_of}
-use Rattle.rl_runs.specs.Numbers.{word_at}
-use Rattle.rl_safety.specs.Railway.{row_at, segment_of}
+use Rattle.rl_steps.specs.Numbers.{word_at}
+use Rattle.rl_protocol.specs.TableLine.{row_at}
+use Rattle.rl_safety.specs.Railway.{segment_of}
 
 -- an arm that was free and is held was reserved, and one that was held and is free was released
 abbrev pub arm_move : Tables → BoxId → ℕ → Option TrainId → Option TrainId → Option Move

@@ -6,7 +6,7 @@ use Rattle.rl_base.specs.Layout.{HasWord}
 use Rattle.rl_words.specs.Word.{Word, read_word}
 use Rattle.rl_tables.specs.declared.table.Tables.{Tables}
 use Rattle.rl_tables.specs.Starts.{layout_of}
-use Rattle.rl_runs.specs.State.{CoreState}
+use Rattle.rl_steps.specs.State.{CoreState}
 use Rattle.rl_safety.specs.Reading.{payload_of}
 
 -- each word of the layout but the still word has a payload that is a packing

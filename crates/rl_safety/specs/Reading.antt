@@ -17,7 +17,6 @@ use Rattle.rl_words.specs.declared.run.RunWord.TheVariants.{Clear}
 use Rattle.rl_words.specs.declared.sense.SenseWord.{SenseWord}
 use Rattle.rl_words.specs.declared.sense.SenseWord.TheVariants.{Quiet}
 use Rattle.rl_words.specs.Readings.{read_resv, read_lock, read_mail, read_run, read_sense}
-use Rattle.rl_words.specs.Resv.{arm_in}
 use Rattle.rl_words.specs.Stamps.{payload_in}
 use Rattle.rl_tables.specs.declared.table.Tables.{Tables}
 use Rattle.rl_tables.specs.Starts.{layout_of}
@@ -27,10 +26,11 @@ use Rattle.rl_box.specs.declared.mind.BoxMind.{BoxMind}
 use Rattle.rl_box.specs.Mind.{start_box}
 use Rattle.rl_track.specs.declared.track.TrackMind.{TrackMind}
 use Rattle.rl_track.specs.Track.{start_track}
-use Rattle.rl_runs.specs.declared.mind.Mind.{Mind}
-use Rattle.rl_runs.specs.declared.mind.Mind.TheVariants.{Train, Track, Box}
-use Rattle.rl_runs.specs.Numbers.{train, box}
-use Rattle.rl_runs.specs.State.{CoreState}
+use Rattle.rl_steps.specs.declared.mind.Mind.{Mind}
+use Rattle.rl_steps.specs.declared.mind.Mind.TheVariants.{Train, Track, Box}
+use Rattle.rl_steps.specs.Numbers.{train, box}
+use Rattle.rl_steps.specs.State.{CoreState}
+use Rattle.rl_protocol.specs.Sentences.{holder_in}
 use Rattle.rl_protocol.specs.State.{State}
 
 -- a mind as that of a train, a track or a box; a mind of another kind stands for the one at the start
@@ -78,14 +78,14 @@ box_of tables c b =
     (c.minds (node_number (layout_of tables) (nodes.Box (box b)))) else start_box
 
 -- who holds an arm, of a reservation word that has been read
-abbrev pub holder_of : Option ResvWord → ℕ → Option TrainId
-holder_of None x = None
-holder_of (Some w) x = if nat_lt x 4 then arm_in w x else None
+abbrev pub holder_read : Option ResvWord → ℕ → Option TrainId
+holder_read None x = None
+holder_read (Some w) x = holder_in w x
 
 -- what each word says. A payload that is no packing stands for nobody, free at left, empty, clear at 0 and quiet at 0;
 -- no run of events leaves one
-abbrev pub holder_in : Tables → CoreState → ℕ → ℕ → Option TrainId
-holder_in tables c b x = holder_of (read_resv (payload_of tables c (words.Resv (box b)))) x
+abbrev pub resv_in : Tables → CoreState → ℕ → ℕ → Option TrainId
+resv_in tables c b x = holder_read (read_resv (payload_of tables c (words.Resv (box b)))) x
 
 abbrev pub lock_in : Tables → CoreState → ℕ → LockWord
 lock_in tables c b = unwrap_or (read_lock (payload_of tables c (words.Lock (box b)))) (Free Left)
@@ -106,7 +106,7 @@ read tables tries c =
       trains = train_of tables tries c;
       tracks = track_of tables c;
       boxes = box_of tables c;
-      resv = holder_in tables c;
+      resv = resv_in tables c;
       lock = lock_in tables c;
       mail = mail_in tables c;
       run = run_in tables c;

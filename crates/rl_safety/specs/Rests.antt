@@ -5,9 +5,9 @@ use Rattle.rl_base.specs.declared.layout.NodeKind.TheVariants as nodes
 use Rattle.rl_tables.specs.declared.table.Tables.{Tables}
 use Rattle.rl_tables.specs.Starts.{layout_of}
 use Rattle.rl_train.specs.declared.mind.TrainMind.{TrainMind}
-use Rattle.rl_runs.specs.declared.mind.Mind.TheVariants.{Train}
-use Rattle.rl_runs.specs.Numbers.{node_at}
-use Rattle.rl_runs.specs.State.{CoreState}
+use Rattle.rl_steps.specs.declared.mind.Mind.TheVariants.{Train}
+use Rattle.rl_steps.specs.Numbers.{node_at}
+use Rattle.rl_steps.specs.State.{CoreState}
 use Rattle.rl_protocol.specs.Minds.{at_rest}
 use Rattle.rl_protocol.specs.TableLine.{line_of}
 

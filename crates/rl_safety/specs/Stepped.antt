@@ -4,8 +4,8 @@ use Rattle.rl_base.specs.declared.layout.NodeKind.{NodeKind}
 use Rattle.rl_record.specs.declared.event.Event.{Event}
 use Rattle.rl_tables.specs.declared.table.Tables.{Tables}
 use Rattle.rl_tables.specs.Starts.{layout_of}
-use Rattle.rl_runs.specs.Numbers.{node_at}
-use Rattle.rl_runs.specs.Run as runs
+use Rattle.rl_steps.specs.Numbers.{node_at}
+use Rattle.rl_steps.specs.Run as runs
 use Rattle.rl_protocol.specs.Counts.{events_of}
 use Rattle.rl_protocol.specs.Runs as protocol
 use Rattle.rl_protocol.specs.Steps.{Step}
@@ -17,7 +17,7 @@ use Rattle.rl_safety.specs.Reading.{read}
 -- the run of steps of a run of events
 pub record IsStepped (tables : Tables) (tries : ℕ) (events : List Event) : Type 0 where
   pub steps : List Step
-  pub run : protocol.IsRun (line_of tables) tries steps
+  pub run : protocol.IsStepRun (line_of tables) tries steps
   pub state : read tables tries (runs.state tables tries events) ≡ protocol.state_after (line_of tables) tries steps
   pub moves : moves_of tables events ≡ protocol.moves_of (line_of tables) steps
   pub count : length events ≡ length steps

@@ -2,7 +2,7 @@
 use Rattle.rl_model.specs.declared.network.NetworkPlan.{NetworkPlan}
 use Rattle.rl_model.specs.World.{World}
 use Rattle.rl_tables.specs.declared.table.Tables.{Tables}
-use Rattle.rl_runs.specs.State.{CoreState}
+use Rattle.rl_steps.specs.State.{CoreState}
 use Rattle.rl_protocol.specs.Worlds.{world_at}
 use Rattle.rl_safety.specs.Reading.{read}
 

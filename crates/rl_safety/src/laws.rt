@@ -1,4 +1,7 @@
 ghost use Rattle.std.specs.Prelude.{◌≡◌, ℕ, ◌*◌, ◌<◌, ◌≤◌, ◌⊎◌, true, List, length, slice_get, Some};
+ghost use Rattle.rl_base.specs.declared.limits.TheConstants.{MAX_ATTEMPT_EVENTS, MAX_ATTEMPT_NODE_EVENTS};
+ghost use Rattle.rl_base.specs.declared.limits.TheConstants.{MAX_ATTEMPT_MOVES};
+ghost use Rattle.rl_base.specs.Tries.{AreFewTries};
 ghost use Rattle.rl_base.specs.declared.layout.NodeKind.{NodeKind};
 ghost use Rattle.rl_model.specs.declared.moves.Move.{Move};
 ghost use Rattle.rl_model.specs.declared.network.NetworkPlan.{NetworkPlan};
@@ -11,11 +14,11 @@ ghost use Rattle.rl_model.specs.Safety.{IsSafeRun, world_after};
 ghost use Rattle.rl_protocol.specs.Agreement.{Agrees};
 ghost use Rattle.rl_protocol.specs.Minds.{at_rest};
 ghost use Rattle.rl_protocol.specs.Refusals.{refusals_said};
-ghost use Rattle.rl_protocol.specs.Rest.{AllRest, IsAtRest};
+ghost use Rattle.rl_protocol.specs.Rest.{AllAtRest, HoldsSegmentsAlone};
 ghost use Rattle.rl_protocol.specs.TableLine.{line_of};
 ghost use Rattle.rl_record.specs.declared.event.Event.{Event};
-ghost use Rattle.rl_runs.specs.Numbers.{node_at};
-ghost use Rattle.rl_runs.specs.Run.{IsRun, state};
+ghost use Rattle.rl_steps.specs.Numbers.{node_at};
+ghost use Rattle.rl_steps.specs.Run.{IsRun, state};
 ghost use Rattle.rl_safety.specs.Counts.{events_by, attempts_of};
 ghost use Rattle.rl_safety.specs.Moves.{moves_of};
 ghost use Rattle.rl_safety.specs.Reading.{read};
@@ -33,19 +36,18 @@ use rl_protocol as protocol;
 use rl_tables::tables_of_networks;
 use rl_track::{machine_steps, track_steps};
 use rl_train::{train_steps, usable_tables};
-use rl_words::{arms, readings, words};
+use rl_words::{readings, words};
 
 /// Every run of events is a run of steps of the protocol: with the same states, moves and counts.
 pub fn steps_of_events()
     ensures { (tables : Tables) (tries : ℕ) (events : List Event)
-        → IsLine tables → tries ≤ 1000 → IsRun tables tries events → IsStepped tables tries events }
+        → IsLine tables → AreFewTries tries → IsRun tables tries events → IsStepped tables tries events }
 {
     usable_tables();
     train_steps();
     track_steps();
     box_steps();
     machine_steps();
-    arms();
     words();
     readings();
     protocol::lines_of_tables();
@@ -55,7 +57,7 @@ pub fn steps_of_events()
 /// Minds and words agree after every run, whichever nodes made its events and in whatever order.
 pub fn agreement()
     ensures { (tables : Tables) (tries : ℕ) (events : List Event)
-        → IsLine tables → tries ≤ 1000 → IsRun tables tries events
+        → IsLine tables → AreFewTries tries → IsRun tables tries events
         → Agrees (line_of tables) tries (read tables tries (state tables tries events)) }
 {
     steps_of_events();
@@ -67,13 +69,13 @@ pub fn agreement()
 /// guarded in the world that the moves before it made, and the words say that world.
 pub fn safe_runs()
     ensures runs { (net : NetworkPlan) (tables : Tables) (tries : ℕ) (events : List Event)
-        → IsNetwork net → AreTablesOf net tables → tries ≤ 1000 → IsRun tables tries events
+        → IsNetwork net → AreTablesOf net tables → AreFewTries tries → IsRun tables tries events
         → IsSafeRun net (moves_of tables events) }
     ensures world { (net : NetworkPlan) (tables : Tables) (tries : ℕ) (events : List Event)
-        → IsNetwork net → AreTablesOf net tables → tries ≤ 1000 → IsRun tables tries events
+        → IsNetwork net → AreTablesOf net tables → AreFewTries tries → IsRun tables tries events
         → world_of_core net tables (state tables tries events) ≡ world_after net (moves_of tables events) }
     ensures named { (net : NetworkPlan) (tables : Tables) (tries : ℕ) (events : List Event)
-        → IsNetwork net → AreTablesOf net tables → tries ≤ 1000 → IsRun tables tries events
+        → IsNetwork net → AreTablesOf net tables → AreFewTries tries → IsRun tables tries events
         → (k : ℕ) (m : Move) → slice_get (moves_of tables events) k ≡ Some m → IsMoveOf net m }
 {
     steps_of_events();
@@ -85,7 +87,7 @@ pub fn safe_runs()
 /// After every run the Refuse and Bar moves of a train are the refusals that it has heard, and the one in its mailbox.
 pub fn counted_refusals()
     ensures { (tables : Tables) (tries : ℕ) (events : List Event) (t : ℕ)
-        → IsLine tables → tries ≤ 1000 → IsRun tables tries events
+        → IsLine tables → AreFewTries tries → IsRun tables tries events
         → refused_in (moves_of tables events) t ≡ refusals_said (read tables tries (state tables tries events)) t }
 {
     steps_of_events();
@@ -97,11 +99,11 @@ pub fn counted_refusals()
 /// is on its way. A single train at rest rests in the world.
 pub fn trains_at_rest()
     ensures all { (tables : Tables) (tries : ℕ) (events : List Event)
-        → IsLine tables → tries ≤ 1000 → IsRun tables tries events
-        → AllRest (line_of tables) (read tables tries (state tables tries events))
-        → IsAtRest (line_of tables) (read tables tries (state tables tries events)) }
+        → IsLine tables → AreFewTries tries → IsRun tables tries events
+        → AllAtRest (line_of tables) (read tables tries (state tables tries events))
+        → HoldsSegmentsAlone (line_of tables) (read tables tries (state tables tries events)) }
     ensures each { (net : NetworkPlan) (tables : Tables) (tries : ℕ) (events : List Event) (t : ℕ)
-        → IsNetwork net → AreTablesOf net tables → tries ≤ 1000 → IsRun tables tries events → t < length net.trains
+        → IsNetwork net → AreTablesOf net tables → AreFewTries tries → IsRun tables tries events → t < length net.trains
         → at_rest (line_of tables) t ((read tables tries (state tables tries events)).trains t) ≡ true
         → Rests net (world_of_core net tables (state tables tries events)) t }
 {
@@ -114,14 +116,14 @@ pub fn trains_at_rest()
 /// In every run all events together, those of each node, and the moves are at most so many for each attempt posted.
 pub fn counted_events()
     ensures events { (tables : Tables) (tries : ℕ) (events : List Event)
-        → IsLine tables → tries ≤ 1000 → IsRun tables tries events
-        → length events ≤ 39 * attempts_of tables tries events }
+        → IsLine tables → AreFewTries tries → IsRun tables tries events
+        → length events ≤ MAX_ATTEMPT_EVENTS * attempts_of tables tries events }
     ensures node { (tables : Tables) (tries : ℕ) (events : List Event) (n : ℕ) (node : NodeKind)
-        → IsLine tables → tries ≤ 1000 → IsRun tables tries events → node_at (layout_of tables) n ≡ Some node
-        → events_by n events ≤ 19 * attempts_of tables tries events }
+        → IsLine tables → AreFewTries tries → IsRun tables tries events → node_at (layout_of tables) n ≡ Some node
+        → events_by n events ≤ MAX_ATTEMPT_NODE_EVENTS * attempts_of tables tries events }
     ensures moves { (tables : Tables) (tries : ℕ) (events : List Event)
-        → IsLine tables → tries ≤ 1000 → IsRun tables tries events
-        → length (moves_of tables events) ≤ 10 * attempts_of tables tries events }
+        → IsLine tables → AreFewTries tries → IsRun tables tries events
+        → length (moves_of tables events) ≤ MAX_ATTEMPT_MOVES * attempts_of tables tries events }
     ensures posted { (tables : Tables) (tries : ℕ) (events : List Event)
         → attempts_of tables tries events ≤ length tables.trains * tries }
 {
@@ -134,13 +136,13 @@ pub fn counted_events()
 /// rests in the end, each has arrived or spent its attempts.
 pub fn right_reports()
     ensures right { (net : NetworkPlan) (tables : Tables) (tries : ℕ) (events : List Event)
-        → IsNetwork net → AreTablesOf net tables → 1 ≤ tries → tries ≤ 1000 → IsRun tables tries events
+        → IsNetwork net → AreTablesOf net tables → 1 ≤ tries → AreFewTries tries → IsRun tables tries events
         → IsRightReport net (report_of tables tries events) }
     ensures of { (net : NetworkPlan) (tables : Tables) (tries : ℕ) (events : List Event)
-        → IsNetwork net → AreTablesOf net tables → 1 ≤ tries → tries ≤ 1000 → IsRun tables tries events
+        → IsNetwork net → AreTablesOf net tables → 1 ≤ tries → AreFewTries tries → IsRun tables tries events
         → IsReportOf net (report_of tables tries events) }
     ensures ended { (tables : Tables) (tries : ℕ) (events : List Event) (t : ℕ) (o : Outcome)
-        → AllRest (line_of tables) (read tables tries (state tables tries events))
+        → AllAtRest (line_of tables) (read tables tries (state tables tries events))
         → slice_get (report_of tables tries events).outcomes t ≡ Some o
         → (o.fate ≡ Arrived) ⊎ (o.fate ≡ Spent) }
 {

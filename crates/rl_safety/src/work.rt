@@ -1,13 +1,14 @@
-ghost use Rattle.std.specs.Prelude.{◌≡◌, ◌↔◌, ℕ, ◌<◌, ◌≤◌, true, false, List, Some};
+ghost use Rattle.std.specs.Prelude.{◌≡◌, ◌↔◌, ℕ, ◌<◌, true, false, List, Some};
+ghost use Rattle.rl_base.specs.Tries.{AreFewTries};
 ghost use Rattle.rl_base.specs.declared.ids.BoxId.{BoxId};
 ghost use Rattle.rl_base.specs.declared.layout.NodeKind.TheVariants as nodes;
 ghost use Rattle.rl_base.specs.Layout.{node_count};
 ghost use Rattle.rl_record.specs.declared.event.Event.{Event};
 ghost use Rattle.rl_record.specs.declared.event.Turn.TheVariants.{Idle, Moved, Rest};
-ghost use Rattle.rl_runs.specs.Numbers.{node_at};
-ghost use Rattle.rl_runs.specs.Run.{IsRun, state};
-ghost use Rattle.rl_runs.specs.Step.{is_ready};
-ghost use Rattle.rl_runs.specs.Turn.{Drive, answer_of};
+ghost use Rattle.rl_steps.specs.Numbers.{node_at};
+ghost use Rattle.rl_steps.specs.Run.{IsRun, state};
+ghost use Rattle.rl_steps.specs.Step.{is_ready};
+ghost use Rattle.rl_steps.specs.Turn.{Drive, answer_of};
 ghost use Rattle.rl_safety.specs.Readable.{AreReadable};
 ghost use Rattle.rl_safety.specs.Rests.{IsTrainAtRest};
 ghost use Rattle.rl_tables.specs.declared.table.Tables.{Tables};
@@ -19,19 +20,19 @@ use rl_box::{box_lines, box_steps};
 use rl_protocol as protocol;
 use rl_track::{machine_steps, track_steps};
 use rl_train::{train_steps, usable_tables};
-use rl_words::{arms, readings, words};
+use rl_words::{readings, words};
 
 /// After every run each word but the still one can be read.
 pub fn readable_words()
     ensures { (tables : Tables) (tries : ℕ) (events : List Event)
-        → IsLine tables → tries ≤ 1000 → IsRun tables tries events → AreReadable tables (state tables tries events) }
+        → IsLine tables → AreFewTries tries → IsRun tables tries events
+        → AreReadable tables (state tables tries events) }
 {
     usable_tables();
     train_steps();
     track_steps();
     box_steps();
     machine_steps();
-    arms();
     words();
     readings();
     protocol::lines_of_tables();
@@ -42,11 +43,11 @@ pub fn readable_words()
 /// while it is ready.
 pub fn boxes_at_work()
     ensures moves { (tables : Tables) (tries : ℕ) (d : Drive) (n : ℕ) (b : BoxId)
-        → IsLine tables → tries ≤ 1000 → IsRun tables tries d.events
+        → IsLine tables → AreFewTries tries → IsRun tables tries d.events
         → node_at (layout_of tables) n ≡ Some (nodes.Box b) → is_ready ((state tables tries d.events).minds n) ≡ false
         → (e : Event) × (answer_of tables tries d n ≡ Moved e) }
     ensures idles { (tables : Tables) (tries : ℕ) (d : Drive) (n : ℕ) (b : BoxId) (word : ℕ)
-        → IsLine tables → tries ≤ 1000 → IsRun tables tries d.events
+        → IsLine tables → AreFewTries tries → IsRun tables tries d.events
         → node_at (layout_of tables) n ≡ Some (nodes.Box b) → answer_of tables tries d n ≡ Idle word
         → is_ready ((state tables tries d.events).minds n) ≡ true }
 {
@@ -65,7 +66,7 @@ pub fn boxes_at_work()
 /// A turn answers Rest exactly for a train at rest.
 pub fn turns_at_rest()
     ensures { (tables : Tables) (tries : ℕ) (d : Drive) (n : ℕ)
-        → IsLine tables → tries ≤ 1000 → IsRun tables tries d.events → n < node_count (layout_of tables)
+        → IsLine tables → AreFewTries tries → IsRun tables tries d.events → n < node_count (layout_of tables)
         → (answer_of tables tries d n ≡ Rest) ↔ IsTrainAtRest tables (state tables tries d.events) n }
 {
     usable_tables();

@@ -11,11 +11,11 @@ use Rattle.rl_record.specs.declared.event.Turn.{Turn}
 use Rattle.rl_words.specs.Stamps.{payload_in}
 use Rattle.rl_tables.specs.declared.table.Tables.{Tables}
 use Rattle.rl_tables.specs.Starts.{layout_of}
-use Rattle.rl_runs.specs.declared.mind.Mind.{Mind}
-use Rattle.rl_runs.specs.Step.{node_step}
-use Rattle.rl_runs.specs.State.{CoreState, event_of, event_at, next_stamp}
-use Rattle.rl_runs.specs.Run.{state}
-use Rattle.rl_runs.specs.Turn.{Drive, turn_of, answer_of, answer_at, events_with, answer_of_target, events_of_target, target_in}
+use Rattle.rl_steps.specs.declared.mind.Mind.{Mind}
+use Rattle.rl_steps.specs.Step.{node_step}
+use Rattle.rl_steps.specs.State.{CoreState, event_of, event_at, next_stamp}
+use Rattle.rl_steps.specs.Run.{state}
+use Rattle.rl_steps.specs.Turn.{Drive, turn_of, answer_of, answer_at, events_with, answer_of_target, events_of_target, target_in}
 use Rattle.rl_safety.specs.Moves.{moves_of}
 use Rattle.rl_core.specs.Cores.{Core, LeadsTo, IsReached}
 use Rattle.rl_schedule.specs.Driven.{Leads, IsDriven, IsPartlyDriven, GoesOn, BreaksOff, IsOnLine, move_in}

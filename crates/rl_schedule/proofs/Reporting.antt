@@ -6,9 +6,9 @@ use Rattle.std.proofs.lemmas.Option.{get_or_from_slice_get}
 use Rattle.rl_model.specs.declared.moves.Move.{Move}
 use Rattle.rl_record.specs.declared.event.Event.{Event}
 use Rattle.rl_tables.specs.declared.table.Tables.{Tables}
-use Rattle.rl_runs.specs.State.{CoreState}
-use Rattle.rl_runs.specs.Run.{IsRun, state}
-use Rattle.rl_runs.specs.Turn.{Drive, start_drive, turn_of, driven}
+use Rattle.rl_steps.specs.State.{CoreState}
+use Rattle.rl_steps.specs.Run.{IsRun, state}
+use Rattle.rl_steps.specs.Turn.{Drive, start_drive, turn_of, driven}
 use Rattle.rl_safety.specs.Moves.{move_of, moves_of}
 use Rattle.rl_core.specs.Cores.{Core, LeadsTo, state_of}
 use Rattle.rl_core.specs.Reports.{AreMindsAfter}

@@ -7,7 +7,7 @@ use Rattle.rl_record.specs.declared.event.Turn.{Turn}
 use Rattle.rl_record.specs.declared.event.Turn.TheVariants.{Moved, Idle, Rest, Full}
 use Rattle.rl_tables.specs.declared.table.Tables.{Tables}
 use Rattle.rl_tables.specs.Starts.{layout_of}
-use Rattle.rl_runs.specs.Turn.{Drive, turn_of, driven}
+use Rattle.rl_steps.specs.Turn.{Drive, turn_of, driven}
 use Rattle.rl_safety.specs.Moves.{move_of, moves_of}
 use Rattle.rl_safety.specs.Reports.{report_of}
 use Rattle.rl_core.specs.Cores.{Core, LeadsTo}

@@ -129,8 +129,8 @@ list_ascends f at to each end i (x ∷ xs) =
 -- the places of a list of names
 next_name : (list : NameList) (j : ℕ) → is_no_later (place_key (name_place list j)) (place_key (name_place list (j + 1))) ≡ true
 next_name lists.Segments j = onward 3 j [] []
-next_name (lists.Arms i) j = within 4 i (2 ∷ j ∷ []) (2 ∷ (j + 1) ∷ []) (onward 2 j [] [])
-next_name (lists.Route i) j = within 5 i (1 ∷ j ∷ []) (1 ∷ (j + 1) ∷ []) (onward 1 j [] [])
+next_name (lists.Arms i) j = within 5 i (2 ∷ j ∷ []) (2 ∷ (j + 1) ∷ []) (onward 2 j [] [])
+next_name (lists.Route i) j = within 6 i (1 ∷ j ∷ []) (1 ∷ (j + 1) ∷ []) (onward 1 j [] [])
 
 texts_ascend : (list : NameList) (to : List ℕ) → ((j : ℕ) → is_no_later (place_key (name_place list j)) to ≡ true) → (ds : Items)
     → Ascends (place_key (name_place list 0)) (no_texts list ds) to
@@ -161,17 +161,17 @@ table_ascends p f (Some m) to h a = a m
 box_ascends : (i : ℕ) (m : Members) → Ascends (place_key (place.BoxItem i)) (in_box i m) (place_key (place.BoxItem (i + 1)))
 unfolding in_box
 box_ascends i m =
-    let at_side = misfit_ascends (4 ∷ i ∷ 3 ∷ []) (place.BoxSide i) side_of (get_member (codes "at") m) [] (4 ∷ (i + 1) ∷ []) (IsNoLater-same (place.BoxSide i))
-    (onward 4 i (3 ∷ []) []) in
-    let at_arms = texts_ascend (lists.Arms i) (4 ∷ i ∷ 3 ∷ []) (λ j. within 4 i (2 ∷ j ∷ []) (3 ∷ []) refl) (items_at (codes "arms") m) in
-    let from_arms = ascends_from (4 ∷ i ∷ 2 ∷ []) (4 ∷ i ∷ 2 ∷ 0 ∷ []) (no_texts (lists.Arms i) (items_at (codes "arms") m)) (4 ∷ i ∷ 3 ∷ [])
-    (within 4 i (2 ∷ []) (2 ∷ 0 ∷ []) refl) at_arms in (
-      within 4 i [] (0 ∷ []) refl,
+    let at_side = misfit_ascends (5 ∷ i ∷ 3 ∷ []) (place.BoxSide i) side_of (get_member (codes "at") m) [] (5 ∷ (i + 1) ∷ []) (IsNoLater-same (place.BoxSide i))
+    (onward 5 i (3 ∷ []) []) in
+    let at_arms = texts_ascend (lists.Arms i) (5 ∷ i ∷ 3 ∷ []) (λ j. within 5 i (2 ∷ j ∷ []) (3 ∷ []) refl) (items_at (codes "arms") m) in
+    let from_arms = ascends_from (5 ∷ i ∷ 2 ∷ []) (5 ∷ i ∷ 2 ∷ 0 ∷ []) (no_texts (lists.Arms i) (items_at (codes "arms") m)) (5 ∷ i ∷ 3 ∷ [])
+    (within 5 i (2 ∷ []) (2 ∷ 0 ∷ []) refl) at_arms in (
+      within 5 i [] (0 ∷ []) refl,
       (
-        within 4 i (0 ∷ []) (1 ∷ []) refl,
+        within 5 i (0 ∷ []) (1 ∷ []) refl,
         (
-          within 4 i (1 ∷ []) (2 ∷ []) refl,
-          ascends-append (4 ∷ i ∷ 2 ∷ []) (4 ∷ i ∷ 3 ∷ []) (4 ∷ (i + 1) ∷ []) (no_texts (lists.Arms i) (items_at (codes "arms") m)) _ from_arms at_side,
+          within 5 i (1 ∷ []) (2 ∷ []) refl,
+          ascends-append (5 ∷ i ∷ 2 ∷ []) (5 ∷ i ∷ 3 ∷ []) (5 ∷ (i + 1) ∷ []) (no_texts (lists.Arms i) (items_at (codes "arms") m)) _ from_arms at_side,
         ),
       ),
     )
@@ -179,27 +179,27 @@ box_ascends i m =
 train_ascends : (i : ℕ) (m : Members) → Ascends (place_key (place.TrainItem i)) (in_train i m) (place_key (place.TrainItem (i + 1)))
 unfolding in_train
 train_ascends i m =
-    let at_route = texts_ascend (lists.Route i) (5 ∷ (i + 1) ∷ []) (λ j. onward 5 i (1 ∷ j ∷ []) []) (items_at (codes "route") m) in (
-      within 5 i [] (0 ∷ []) refl,
+    let at_route = texts_ascend (lists.Route i) (6 ∷ (i + 1) ∷ []) (λ j. onward 6 i (1 ∷ j ∷ []) []) (items_at (codes "route") m) in (
+      within 6 i [] (0 ∷ []) refl,
       (
-        within 5 i (0 ∷ []) (1 ∷ []) refl,
-        ascends_from (5 ∷ i ∷ 1 ∷ []) (5 ∷ i ∷ 1 ∷ 0 ∷ []) (no_texts (lists.Route i) (items_at (codes "route") m)) (5 ∷ (i + 1) ∷ [])
-            (within 5 i (1 ∷ []) (1 ∷ 0 ∷ []) refl) at_route,
+        within 6 i (0 ∷ []) (1 ∷ []) refl,
+        ascends_from (6 ∷ i ∷ 1 ∷ []) (6 ∷ i ∷ 1 ∷ 0 ∷ []) (no_texts (lists.Route i) (items_at (codes "route") m)) (6 ∷ (i + 1) ∷ [])
+            (within 6 i (1 ∷ []) (1 ∷ 0 ∷ []) refl) at_route,
       ),
     )
 
 boxes_ascend : (ds : Items) → Ascends (place_key (place.BoxItem 0)) (in_boxes ds) (place_key place.Trains)
 unfolding in_boxes
 boxes_ascend ds =
-    items_ascend (λ i d. in_table (place.BoxItem i) (in_box i) (table_with keys.Box d)) (λ i. place_key (place.BoxItem i)) (5 ∷ [])
-    (λ i d. table_ascends (place.BoxItem i) (in_box i) (table_with keys.Box d) (4 ∷ (i + 1) ∷ []) (onward 4 i [] []) (box_ascends i))
+    items_ascend (λ i d. in_table (place.BoxItem i) (in_box i) (table_with keys.Box d)) (λ i. place_key (place.BoxItem i)) (6 ∷ [])
+    (λ i d. table_ascends (place.BoxItem i) (in_box i) (table_with keys.Box d) (5 ∷ (i + 1) ∷ []) (onward 5 i [] []) (box_ascends i))
     (λ i. refl) 0 ds
 
-trains_ascend : (ds : Items) → Ascends (place_key (place.TrainItem 0)) (in_trains ds) (6 ∷ [])
+trains_ascend : (ds : Items) → Ascends (place_key (place.TrainItem 0)) (in_trains ds) (7 ∷ [])
 unfolding in_trains
 trains_ascend ds =
-    items_ascend (λ i d. in_table (place.TrainItem i) (in_train i) (table_with keys.Train d)) (λ i. place_key (place.TrainItem i)) (6 ∷ [])
-    (λ i d. table_ascends (place.TrainItem i) (in_train i) (table_with keys.Train d) (5 ∷ (i + 1) ∷ []) (onward 5 i [] []) (train_ascends i))
+    items_ascend (λ i d. in_table (place.TrainItem i) (in_train i) (table_with keys.Train d)) (λ i. place_key (place.TrainItem i)) (7 ∷ [])
+    (λ i d. table_ascends (place.TrainItem i) (in_train i) (table_with keys.Train d) (6 ∷ (i + 1) ∷ []) (onward 6 i [] []) (train_ascends i))
     (λ i. refl) 0 ds
 
 -- what is looked at in a document: the three lists, each from its own place on
@@ -208,24 +208,24 @@ segments_ascend : (m : Members)
     (misfit place.Segments as_array (get_member (codes "segments") m) ∷ no_texts lists.Segments (items_at (codes "segments") m)) (place_key place.Boxes)
 segments_ascend m =
     let ds = items_at (codes "segments") m in
-    misfit_ascends (2 ∷ []) place.Segments as_array (get_member (codes "segments") m) (no_texts lists.Segments ds) (4 ∷ []) refl
-    (ascends_from (3 ∷ []) (3 ∷ 0 ∷ []) (no_texts lists.Segments ds) (4 ∷ []) refl (texts_ascend lists.Segments (4 ∷ []) (λ j. refl) ds))
+    misfit_ascends (2 ∷ []) place.Segments as_array (get_member (codes "segments") m) (no_texts lists.Segments ds) (5 ∷ []) refl
+    (ascends_from (3 ∷ []) (3 ∷ 0 ∷ []) (no_texts lists.Segments ds) (5 ∷ []) refl (texts_ascend lists.Segments (5 ∷ []) (λ j. refl) ds))
 
 all_boxes_ascend : (m : Members)
     → Ascends (place_key place.Boxes) (misfit place.Boxes as_array (get_member (codes "box") m) ∷ in_boxes (items_at (codes "box") m)) (place_key place.Trains)
 all_boxes_ascend m =
     let ds = items_at (codes "box") m in
-    misfit_ascends (4 ∷ []) place.Boxes as_array (get_member (codes "box") m) (in_boxes ds) (5 ∷ []) refl
-    (ascends_from (4 ∷ []) (4 ∷ 0 ∷ []) (in_boxes ds) (5 ∷ []) refl (boxes_ascend ds))
+    misfit_ascends (5 ∷ []) place.Boxes as_array (get_member (codes "box") m) (in_boxes ds) (6 ∷ []) refl
+    (ascends_from (5 ∷ []) (5 ∷ 0 ∷ []) (in_boxes ds) (6 ∷ []) refl (boxes_ascend ds))
 
 all_trains_ascend : (m : Members)
-    → Ascends (place_key place.Trains) (misfit place.Trains as_array (get_member (codes "train") m) ∷ in_trains (items_at (codes "train") m)) (6 ∷ [])
+    → Ascends (place_key place.Trains) (misfit place.Trains as_array (get_member (codes "train") m) ∷ in_trains (items_at (codes "train") m)) (7 ∷ [])
 all_trains_ascend m =
     let ds = items_at (codes "train") m in
-    misfit_ascends (5 ∷ []) place.Trains as_array (get_member (codes "train") m) (in_trains ds) (6 ∷ []) refl
-    (ascends_from (5 ∷ []) (5 ∷ 0 ∷ []) (in_trains ds) (6 ∷ []) refl (trains_ascend ds))
+    misfit_ascends (6 ∷ []) place.Trains as_array (get_member (codes "train") m) (in_trains ds) (7 ∷ []) refl
+    (ascends_from (6 ∷ []) (6 ∷ 0 ∷ []) (in_trains ds) (7 ∷ []) refl (trains_ascend ds))
 
-pub keys_ascend : (m : Members) → Ascends (place_key place.Top) (key_conditions m) (6 ∷ [])
+pub keys_ascend : (m : Members) → Ascends (place_key place.Top) (key_conditions m) (7 ∷ [])
 unfolding key_conditions
 keys_ascend m =
     let segments : List Condition = misfit place.Segments as_array (get_member (codes "segments") m) ∷ no_texts lists.Segments
@@ -235,8 +235,8 @@ keys_ascend m =
       refl,
       (
         refl,
-        ascends-append (2 ∷ []) (5 ∷ []) (6 ∷ []) (segments ++ boxes) trains
-            (ascends-append (2 ∷ []) (4 ∷ []) (5 ∷ []) segments boxes (segments_ascend m) (all_boxes_ascend m)) (all_trains_ascend m),
+        ascends-append (2 ∷ []) (6 ∷ []) (7 ∷ []) (segments ++ boxes) trains
+            (ascends-append (2 ∷ []) (5 ∷ []) (6 ∷ []) segments boxes (segments_ascend m) (all_boxes_ascend m)) (all_trains_ascend m),
       ),
     )
 
@@ -244,23 +244,23 @@ keys_ascend m =
 names_of_box_ascend : (i : ℕ) (b : DraftBox) → Ascends (place_key (place.BoxItem i)) (of_box i b) (place_key (place.BoxItem (i + 1)))
 unfolding of_box
 names_of_box_ascend i b = (
-  within 4 i [] (0 ∷ []) refl,
-  ascends_from (4 ∷ i ∷ 0 ∷ []) (4 ∷ i ∷ 2 ∷ 0 ∷ []) (no_names (lists.Arms i) b.arms) (4 ∷ (i + 1) ∷ []) (within 4 i (0 ∷ []) (2 ∷ 0 ∷ []) refl)
-      (names_ascend (lists.Arms i) (4 ∷ (i + 1) ∷ []) (λ j. onward 4 i (2 ∷ j ∷ []) []) b.arms),
+  within 5 i [] (0 ∷ []) refl,
+  ascends_from (5 ∷ i ∷ 0 ∷ []) (5 ∷ i ∷ 2 ∷ 0 ∷ []) (no_names (lists.Arms i) b.arms) (5 ∷ (i + 1) ∷ []) (within 5 i (0 ∷ []) (2 ∷ 0 ∷ []) refl)
+      (names_ascend (lists.Arms i) (5 ∷ (i + 1) ∷ []) (λ j. onward 5 i (2 ∷ j ∷ []) []) b.arms),
 )
 
 names_of_train_ascend : (i : ℕ) (t : DraftTrain) → Ascends (place_key (place.TrainItem i)) (of_train i t) (place_key (place.TrainItem (i + 1)))
 unfolding of_train
 names_of_train_ascend i t = (
-  within 5 i [] (0 ∷ []) refl,
-  ascends_from (5 ∷ i ∷ 0 ∷ []) (5 ∷ i ∷ 1 ∷ 0 ∷ []) (no_names (lists.Route i) t.route) (5 ∷ (i + 1) ∷ []) (within 5 i (0 ∷ []) (1 ∷ 0 ∷ []) refl)
-      (names_ascend (lists.Route i) (5 ∷ (i + 1) ∷ []) (λ j. onward 5 i (1 ∷ j ∷ []) []) t.route),
+  within 6 i [] (0 ∷ []) refl,
+  ascends_from (6 ∷ i ∷ 0 ∷ []) (6 ∷ i ∷ 1 ∷ 0 ∷ []) (no_names (lists.Route i) t.route) (6 ∷ (i + 1) ∷ []) (within 6 i (0 ∷ []) (1 ∷ 0 ∷ []) refl)
+      (names_ascend (lists.Route i) (6 ∷ (i + 1) ∷ []) (λ j. onward 6 i (1 ∷ j ∷ []) []) t.route),
 )
 
-pub draft_names_ascend : (d : Draft) → Ascends (place_key (place.Segment 0)) (name_conditions d) (6 ∷ [])
+pub draft_names_ascend : (d : Draft) → Ascends (place_key (place.Segment 0)) (name_conditions d) (7 ∷ [])
 unfolding name_conditions
 draft_names_ascend d =
-    ascends-append (3 ∷ 0 ∷ []) (5 ∷ 0 ∷ []) (6 ∷ []) _ _
-    (ascends-append (3 ∷ 0 ∷ []) (4 ∷ 0 ∷ []) (5 ∷ 0 ∷ []) _ _ (names_ascend lists.Segments (4 ∷ 0 ∷ []) (λ j. refl) d.segments)
-    (list_ascends of_box (λ i. place_key (place.BoxItem i)) (5 ∷ 0 ∷ []) names_of_box_ascend (λ i. refl) 0 d.boxes))
-    (list_ascends of_train (λ i. place_key (place.TrainItem i)) (6 ∷ []) names_of_train_ascend (λ i. refl) 0 d.trains)
+    ascends-append (3 ∷ 0 ∷ []) (6 ∷ 0 ∷ []) (7 ∷ []) _ _
+    (ascends-append (3 ∷ 0 ∷ []) (5 ∷ 0 ∷ []) (6 ∷ 0 ∷ []) _ _ (names_ascend lists.Segments (5 ∷ 0 ∷ []) (λ j. refl) d.segments)
+    (list_ascends of_box (λ i. place_key (place.BoxItem i)) (6 ∷ 0 ∷ []) names_of_box_ascend (λ i. refl) 0 d.boxes))
+    (list_ascends of_train (λ i. place_key (place.TrainItem i)) (7 ∷ []) names_of_train_ascend (λ i. refl) 0 d.trains)

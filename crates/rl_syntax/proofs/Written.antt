@@ -15,7 +15,7 @@ use Rattle.rl_base.specs.declared.kind.Kind.{Kind}
 use Rattle.rl_base.specs.declared.kind.Kind.TheVariants.{Buffer, Joint, Point, Crossing}
 use Rattle.rl_base.specs.declared.kind.Side.{Side}
 use Rattle.rl_base.specs.declared.kind.Side.TheVariants.{Left, Right}
-use Rattle.rl_syntax.specs.DraftTable.{put, tables}
+use Rattle.rl_syntax.specs.DraftTable.{with_key, tables}
 use Rattle.rl_syntax.specs.Spelling.{texts}
 use Rattle.toml.specs.Data.{string, table, item, push_item, Members, member}
 use Rattle.toml.specs.View.{view, items_view, members_view}
@@ -54,16 +54,16 @@ passes_at p (y ∷ ys) (suc i) x l e h = passes_at p ys i x (omega (arith, l)) e
 
 -- an insert into the map of a table
 inserted : (o : Ordering) (k : String Global) (v : Value) (e : Entry) (es : List Entry)
-    → members_view (insert_entry string_cmp es k v) ≡ put (string_bytes k) (view v) (members_view es)
+    → members_view (insert_entry string_cmp es k v) ≡ with_key (string_bytes k) (view v) (members_view es)
     → members_view (match_ordering o ((k, v) ∷ e ∷ es) ((e.0, v) ∷ es) (e ∷ insert_entry string_cmp es k v))
     ≡ match_ordering o (member (string_bytes k) (view v) (members_view (e ∷ es))) (member (string_bytes e.0) (view v) (members_view es))
-    (member (string_bytes e.0) (view e.1) (put (string_bytes k) (view v) (members_view es)))
+    (member (string_bytes e.0) (view e.1) (with_key (string_bytes k) (view v) (members_view es)))
 inserted Less k v e es h = refl
 inserted Equal k v e es h = refl
 inserted Greater k v e es h = ap (member (string_bytes e.0) (view e.1)) h
 
 pub members_view-insert_entry : (k : String Global) (v : Value) (es : List Entry)
-    → members_view (insert_entry string_cmp es k v) ≡ put (string_bytes k) (view v) (members_view es)
+    → members_view (insert_entry string_cmp es k v) ≡ with_key (string_bytes k) (view v) (members_view es)
 members_view-insert_entry k v [] = refl
 members_view-insert_entry k v (e ∷ es) = inserted (string_cmp k e.0) k v e es (members_view-insert_entry k v es)
 

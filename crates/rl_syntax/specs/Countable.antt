@@ -1,12 +1,13 @@
 -- Lists whose items places can number.
-use Rattle.std.specs.Prelude.{◌<◌, ◌^◌, List, length, All}
+use Rattle.std.specs.Prelude.{List, length, All}
+use Rattle.rl_base.specs.Numbers.{IsU32}
 use Rattle.rl_base.specs.declared.draft.Draft.{Draft}
 use Rattle.rl_base.specs.declared.draft.DraftBox.{DraftBox}
 use Rattle.rl_base.specs.declared.draft.DraftTrain.{DraftTrain}
 
 -- each index of the list is a number of 32 bits
 abbrev pub IsCountable : {A : Type 0} → List A → Type 0
-IsCountable xs = length xs < 2 ^ 32
+IsCountable xs = IsU32 (length xs)
 
 abbrev pub HasCountableArms : DraftBox → Type 0
 HasCountableArms b = IsCountable b.arms

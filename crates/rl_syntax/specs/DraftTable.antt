@@ -11,27 +11,28 @@ use Rattle.rl_syntax.specs.Spelling.{texts}
 use Rattle.toml.specs.Data.{Data, string, integer, array, table, Items, no_items, item, Members, no_members, member}
 
 -- the table with a value at a key, its keys in order
-abbrev pub put : List ℕ → Data → Members → Members
-put key d no_members = member key d no_members
-put key d (member k e ms) =
-    match_ordering (slice_cmp nat_cmp key k) (member key d (member k e ms)) (member k d ms) (member k e (put key d ms))
+abbrev pub with_key : List ℕ → Data → Members → Members
+with_key key d no_members = member key d no_members
+with_key key d (member k e ms) =
+    match_ordering (slice_cmp nat_cmp key k) (member key d (member k e ms)) (member k d ms)
+    (member k e (with_key key d ms))
 
 -- the table with the side, where there is one
-abbrev pub put_side : Option Side → Members → Members
-put_side None m = m
-put_side (Some side) m = put (codes "at") (string (side_word side)) m
+abbrev pub with_side : Option Side → Members → Members
+with_side None m = m
+with_side (Some side) m = with_key (codes "at") (string (side_word side)) m
 
 -- the table of a box
 abbrev pub box_table : DraftBox → Members
 box_table b =
-    put_side b.at
-    (put (codes "arms") (array (texts b.arms))
-    (put (codes "kind") (string (kind_word b.kind))
-    (put (codes "name") (string b.name) no_members)))
+    with_side b.at
+    (with_key (codes "arms") (array (texts b.arms))
+    (with_key (codes "kind") (string (kind_word b.kind))
+    (with_key (codes "name") (string b.name) no_members)))
 
 -- the table of a train
 abbrev pub train_table : DraftTrain → Members
-train_table t = put (codes "route") (array (texts t.route)) (put (codes "name") (string t.name) no_members)
+train_table t = with_key (codes "route") (array (texts t.route)) (with_key (codes "name") (string t.name) no_members)
 
 -- one table for each of the list
 abbrev pub tables : {A : Type 0} → (A → Members) → List A → Items
@@ -41,7 +42,7 @@ tables f (x ∷ xs) = item (table (f x)) (tables f xs)
 -- the table of a draft: each list is there, also an empty one
 abbrev pub draft_table : Draft → Members
 draft_table d =
-    put (codes "train") (array (tables train_table d.trains))
-    (put (codes "box") (array (tables box_table d.boxes))
-    (put (codes "segments") (array (texts d.segments))
-    (put (codes "format") (integer (pos 1)) no_members)))
+    with_key (codes "train") (array (tables train_table d.trains))
+    (with_key (codes "box") (array (tables box_table d.boxes))
+    (with_key (codes "segments") (array (texts d.segments))
+    (with_key (codes "format") (integer (pos 1)) no_members)))

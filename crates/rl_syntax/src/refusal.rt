@@ -8,7 +8,7 @@ use thiserror::Error;
 /// the numbers is answered, and of several places of one cause the first.
 #[derive(Clone, Copy, Debug, PartialEq, Eq, Error)]
 pub enum SyntaxRefusal {
-    /// 1. The text has more than 65,536 bytes.
+    /// 1. The text has more than `MAX_NETWORK_BYTES` bytes.
     #[error("the text is too long")]
     TooLong,
     /// 2. The text isn't UTF-8, or no TOML document.

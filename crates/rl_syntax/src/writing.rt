@@ -2,7 +2,7 @@ ghost use Rattle.std.specs.Prelude.{◌≡◌, ◌≤◌, false, IfOk, OnOk, IsT
 ghost use Rattle.std.specs.List.{list_all};
 ghost use Rattle.rl_base.specs.Draft.{HasNames};
 ghost use Rattle.rl_base.specs.Name.{is_name};
-ghost use Rattle.rl_syntax.specs.DraftTable.{put, put_side, box_table, train_table, tables, draft_table};
+ghost use Rattle.rl_syntax.specs.DraftTable.{with_key, with_side, box_table, train_table, tables, draft_table};
 ghost use Rattle.rl_syntax.specs.Meaning.{Means};
 ghost use Rattle.rl_syntax.specs.Spelling.{texts};
 ghost use Rattle.toml.specs.Data.{string, array, members_depth};
@@ -19,8 +19,8 @@ use toml::{Table, Value};
 
 /// Puts a value at a key.
 #[tactic(auto, using(crate::proofs::Written::entries))]
-fn put(alloc: Global, table: &mut Table, key: &str, value: Value) -> Result<(), NoMemory>
-    ensures { OnOk result (table_view table.new ≡ put key.now (view value) (table_view table.old)) }
+fn set_key(alloc: Global, table: &mut Table, key: &str, value: Value) -> Result<(), NoMemory>
+    ensures { OnOk result (table_view table.new ≡ with_key key.now (view value) (table_view table.old)) }
 {
     table.insert(String::from_str(alloc, key)?, value)?;
     Ok(())
@@ -51,13 +51,29 @@ fn names_value(alloc: Global, names: &[Name]) -> Result<Value, NoMemory>
     Ok(Value::from(items))
 }
 
+/// Puts a name, or a word that is made as names are, at a key.
+fn set_text(alloc: Global, table: &mut Table, key: &str, text: &[u8]) -> Result<(), NoMemory>
+    requires { IsTrue (is_name text.now) }
+    ensures { OnOk result (table_view table.new ≡ with_key key.now (string text.now) (table_view table.old)) }
+{
+    set_key(alloc, table, key, text_value(alloc, text)?)
+}
+
+/// Puts a list of names at a key.
+fn set_names(alloc: Global, table: &mut Table, key: &str, names: &[Name]) -> Result<(), NoMemory>
+    requires { IsTrue (list_all is_name names.now) }
+    ensures { OnOk result (table_view table.new ≡ with_key key.now (array (texts names.now)) (table_view table.old)) }
+{
+    set_key(alloc, table, key, names_value(alloc, names)?)
+}
+
 /// Puts the side of a box, where it has one.
 #[tactic(auto, using(crate::proofs::Written::names))]
-fn put_side(alloc: Global, table: &mut Table, side: Option<Side>) -> Result<(), NoMemory>
-    ensures { OnOk result (table_view table.new ≡ put_side side (table_view table.old)) }
+fn set_side(alloc: Global, table: &mut Table, side: Option<Side>) -> Result<(), NoMemory>
+    ensures { OnOk result (table_view table.new ≡ with_side side (table_view table.old)) }
 {
     match side {
-        Some(side) => put(alloc, table, "at", text_value(alloc, side_word(side))?),
+        Some(side) => set_text(alloc, table, "at", side_word(side)),
         None => Ok(()),
     }
 }
@@ -69,25 +85,10 @@ fn box_table(alloc: Global, draft: &DraftBox) -> Result<Table, NoMemory>
     ensures { IfOk result (λ t. table_view t ≡ box_table draft.now) }
 {
     let mut table = Table::new(alloc);
-    put(
-        alloc,
-        &mut table,
-        "name",
-        text_value(alloc, draft.name.bytes())?,
-    )?;
-    put(
-        alloc,
-        &mut table,
-        "kind",
-        text_value(alloc, kind_word(draft.kind))?,
-    )?;
-    put(
-        alloc,
-        &mut table,
-        "arms",
-        names_value(alloc, draft.arms.as_slice())?,
-    )?;
-    put_side(alloc, &mut table, draft.at)?;
+    set_text(alloc, &mut table, "name", draft.name.bytes())?;
+    set_text(alloc, &mut table, "kind", kind_word(draft.kind))?;
+    set_names(alloc, &mut table, "arms", draft.arms.as_slice())?;
+    set_side(alloc, &mut table, draft.at)?;
     Ok(table)
 }
 
@@ -110,18 +111,8 @@ fn train_table(alloc: Global, draft: &DraftTrain) -> Result<Table, NoMemory>
     ensures { IfOk result (λ t. table_view t ≡ train_table draft.now) }
 {
     let mut table = Table::new(alloc);
-    put(
-        alloc,
-        &mut table,
-        "name",
-        text_value(alloc, draft.name.bytes())?,
-    )?;
-    put(
-        alloc,
-        &mut table,
-        "route",
-        names_value(alloc, draft.route.as_slice())?,
-    )?;
+    set_text(alloc, &mut table, "name", draft.name.bytes())?;
+    set_names(alloc, &mut table, "route", draft.route.as_slice())?;
     Ok(table)
 }
 
@@ -143,20 +134,15 @@ fn draft_table(alloc: Global, draft: &Draft) -> Result<Table, NoMemory>
     ensures { IfOk result (λ t. table_view t ≡ draft_table draft.now) }
 {
     let mut table = Table::new(alloc);
-    put(alloc, &mut table, "format", Value::from(1i64))?;
-    put(
-        alloc,
-        &mut table,
-        "segments",
-        names_value(alloc, draft.segments.as_slice())?,
-    )?;
-    put(
+    set_key(alloc, &mut table, "format", Value::from(1i64))?;
+    set_names(alloc, &mut table, "segments", draft.segments.as_slice())?;
+    set_key(
         alloc,
         &mut table,
         "box",
         boxes_value(alloc, draft.boxes.as_slice())?,
     )?;
-    put(
+    set_key(
         alloc,
         &mut table,
         "train",

@@ -3,6 +3,7 @@ use Rattle.std.proofs.Common.{◌≡◌, ℕ, zero, suc, ◌<◌, ◌≤◌, Boo
 use Rattle.std.specs.Prelude.{◌==◌, ◌↔◌, is_some, find, option_map, IfSome}
 use Rattle.std.proofs.lemmas.Bool.{cond_both, eqb-true, eq-eqb, false≢true}
 use Rattle.std.proofs.lemmas.Option.{same_Some, option_and_then_some, slice_get_within}
+use Rattle.rl_base.specs.declared.limits.TheConstants.{MAX_TRAINS}
 use Rattle.rl_base.specs.declared.ids.TrainId.{TrainId}
 use Rattle.rl_base.specs.declared.ids.SegId.{SegId}
 use Rattle.rl_model.specs.declared.network.Train.{Train}
@@ -13,7 +14,7 @@ use Rattle.rl_tables.specs.declared.table.TrainTable.{TrainTable}
 use Rattle.rl_tables.specs.declared.table.Tables.{Tables}
 use Rattle.rl_tables.specs.Kept.{IsLine}
 use Rattle.rl_tables.specs.Tables.{AreTablesOf}
-use Rattle.rl_tables.specs.Starts.{holder_of}
+use Rattle.rl_tables.specs.Starts.{starter_of}
 use Rattle.rl_tables.proofs.ListsOf.{there}
 
 -- what is found is an item of the list that passes
@@ -31,21 +32,21 @@ mapped : {A B : Type 0} (f : A → B) (o : Option A) (P : B → Type 0) → IfSo
 mapped f None P h = tt
 mapped f (Some x) P h = h
 
-pub holder_there : (tables : Tables) (s : ℕ) → IsLine tables → IfSome (holder_of tables s) (λ t. t.0 < length tables.trains)
+pub holder_there : (tables : Tables) (s : ℕ) → IsLine tables → IfSome (starter_of tables s) (λ t. t.0 < length tables.trains)
 holder_there tables s line =
     mapped (λ (x : TrainTable). x.number) (find (λ (x : TrainTable). x.first.0 == s) tables.trains) (λ (t : TrainId). t.0 < length tables.trains)
     (found (λ (x : TrainTable). x.first.0 == s) tables.trains (λ x. x.number.0 < length tables.trains)
     (λ k x at pass. let within = slice_get_within tables.trains k x at in let number = (line.trains k x at).number in omega arith))
 
-fits : (o : Option TrainId) (n : ℕ) → n ≤ 32 → IfSome o (λ t. t.0 < n) → FitsArm o
+fits : (o : Option TrainId) (n : ℕ) → n ≤ MAX_TRAINS → IfSome o (λ t. t.0 < n) → FitsArm o
 fits None n few h = tt
 fits (Some t) n few h = omega arith
 
-pub holder_fits : (tables : Tables) (s : ℕ) → IsLine tables → FitsArm (holder_of tables s)
-holder_fits tables s line = fits (holder_of tables s) (length tables.trains) line.few_trains (holder_there tables s line)
+pub holder_fits : (tables : Tables) (s : ℕ) → IsLine tables → FitsArm (starter_of tables s)
+holder_fits tables s line = fits (starter_of tables s) (length tables.trains) line.few_trains (holder_there tables s line)
 
 -- the train that starts on s, by the network
-starter_is : (net : NetworkPlan) (tables : Tables) (s : ℕ) → AreTablesOf net tables → IfSome (holder_of tables s) (λ t. StartsOn net t.0 s)
+starter_is : (net : NetworkPlan) (tables : Tables) (s : ℕ) → AreTablesOf net tables → IfSome (starter_of tables s) (λ t. StartsOn net t.0 s)
 starter_is net tables s are =
     mapped (λ (x : TrainTable). x.number) (find (λ (x : TrainTable). x.first.0 == s) tables.trains) (λ (t : TrainId). StartsOn net t.0 s)
     (found (λ (x : TrainTable). x.first.0 == s) tables.trains (λ x. StartsOn net x.number.0 s)
@@ -63,7 +64,7 @@ some_mapped : {A B : Type 0} (f : A → B) (o : Option A) → is_some o ≡ true
 some_mapped f None h = absurd (false≢true h)
 some_mapped f (Some x) h = refl
 
-starter_found : (net : NetworkPlan) (tables : Tables) (t s : ℕ) → AreTablesOf net tables → StartsOn net t s → is_some (holder_of tables s) ≡ true
+starter_found : (net : NetworkPlan) (tables : Tables) (t s : ℕ) → AreTablesOf net tables → StartsOn net t s → is_some (starter_of tables s) ≡ true
 starter_found net tables t s are starts =
     let inside = start_there net t s starts in
     let count = are.trains.length_is in
@@ -73,10 +74,10 @@ starter_found net tables t s are starts =
     (some_found (λ (x : TrainTable). x.first.0 == s) tables.trains t item.0 item.1 (eq-eqb item.0.first.0 s first))
 
 pub holder_is : (net : NetworkPlan) (tables : Tables) (t s : ℕ) → IsNetwork net → AreTablesOf net tables
-    → (option_map (λ (u : TrainId). u.0) (holder_of tables s) ≡ Some t) ↔ StartsOn net t s
+    → (option_map (λ (u : TrainId). u.0) (starter_of tables s) ≡ Some t) ↔ StartsOn net t s
 holder_is net tables t s network are = (
-  from (holder_of tables s) (starter_is net tables s are),
-  λ starts. to (holder_of tables s) (starter_is net tables s are) starts
+  from (starter_of tables s) (starter_is net tables s are),
+  λ starts. to (starter_of tables s) (starter_is net tables s are) starts
       (starter_found net tables t s are starts),
 )
   where

@@ -2,6 +2,7 @@
 use Rattle.std.proofs.Common.{◌≡◌, ℕ, ◌<◌, ◌≤◌, List, length, get_or, slice_get, Option, Some, None, refl, sym, arith}
 use Rattle.std.specs.Prelude.{option_map, IfSome}
 use Rattle.std.proofs.lemmas.Option.{option_and_then_some, slice_get_within, slice_get_read}
+use Rattle.rl_base.specs.declared.limits.TheConstants.{MAX_STEPS}
 use Rattle.rl_base.specs.declared.ids.SegId.{SegId}
 use Rattle.rl_model.specs.declared.network.SwitchBox.{SwitchBox}
 use Rattle.rl_model.specs.declared.network.NetworkPlan.{NetworkPlan}
@@ -44,7 +45,7 @@ row_there net t k row network is =
 -- a train of the tables is there, and so are its rows
 pub record IsThere (net : NetworkPlan) (x : TrainTable) : Type 0 where
   pub train : x.number.0 < length net.trains
-  pub short : length x.rows ≤ 64
+  pub short : length x.rows ≤ MAX_STEPS
   pub rows : (k : ℕ) (row : StepRow) → slice_get x.rows k ≡ Some row → IsRowOf net row
 
 pub train_there : (net : NetworkPlan) (tables : Tables) (t : ℕ) (x : TrainTable) → IsNetwork net → AreTablesOf net tables → slice_get tables.trains t ≡ Some x

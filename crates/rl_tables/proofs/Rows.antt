@@ -3,6 +3,7 @@ use Rattle.std.proofs.Common.{◌≡◌, ℕ, ◌<◌, ◌≤◌, ◌≢◌, ◌
 use Rattle.std.specs.Prelude.{is_some}
 use Rattle.std.proofs.lemmas.Bool.Decides.{nat_tests}
 use Rattle.std.proofs.lemmas.Bool.{false≢true, or_cases}
+use Rattle.rl_base.specs.declared.limits.TheConstants.{MAX_STEPS}
 use Rattle.rl_base.specs.declared.kind.Kind.{Kind}
 use Rattle.rl_base.specs.declared.kind.Kind.TheVariants.{Buffer, Joint, Point, Crossing}
 use Rattle.rl_base.specs.declared.kind.Side.{Side}
@@ -13,8 +14,8 @@ use Rattle.rl_model.specs.Network.{arm_of, kind_of, has_end, joined, connects, c
 use Rattle.rl_tables.specs.Kept.{can_join}
 use Rattle.rl_tables.proofs.ListsOf.{there}
 
--- a train that is there has at most 64 steps
-pub few_steps : (net : NetworkPlan) (t : ℕ) → IsNetwork net → t < length net.trains → steps_of net t ≤ 64
+-- a train that is there has no more steps than a route may have
+pub few_steps : (net : NetworkPlan) (t : ℕ) → IsNetwork net → t < length net.trains → steps_of net t ≤ MAX_STEPS
 few_steps net t network within =
     let found = there net.trains t within in
     rw found.1 (network.trains t found.0 found.1).short

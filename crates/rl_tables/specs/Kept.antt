@@ -5,6 +5,7 @@ use Rattle.std.specs.Option.{option_map_or}
 use Rattle.rl_base.specs.declared.kind.Kind.{Kind}
 use Rattle.rl_base.specs.declared.kind.Kind.TheVariants.{Buffer, Point}
 use Rattle.rl_base.specs.declared.kind.Side.TheVariants.{Left, Right}
+use Rattle.rl_base.specs.declared.limits.TheConstants.{MAX_BOXES, MAX_TRAINS, MAX_STEPS}
 use Rattle.rl_base.specs.Kind.{arms_of, arms_join}
 use Rattle.rl_tables.specs.declared.table.BoxTable.{BoxTable}
 use Rattle.rl_tables.specs.declared.table.StepRow.{StepRow}
@@ -66,21 +67,21 @@ pub record IsRow (tables : Tables) (row : StepRow) : Type 0 where
   pub back_apart : row.a.0 ≢ row.b.0
   pub back_only : IsOnlyAt tables row.s.0 row.b.0 row.x.0 row.a.0 row.a_arm.0
 
--- a train has at most 64 steps, the first from its first segment, and each next from where the one before ends. Its
--- first segment has two ends, also where it makes no step
+-- a train has no more steps than a route may have, the first from its first segment, and each next from where the one
+-- before ends. Its first segment has two ends, also where it makes no step
 pub record IsTrain (tables : Tables) (t : ℕ) (x : TrainTable) : Type 0 where
   pub number : x.number.0 ≡ t
-  pub short : length x.rows ≤ 64
+  pub short : length x.rows ≤ MAX_STEPS
   pub rows : (k : ℕ) (row : StepRow) → slice_get x.rows k ≡ Some row → IsRow tables row
   pub starts : HasEnds tables x.first.0
   pub first : (row : StepRow) → slice_get x.rows 0 ≡ Some row → row.s.0 ≡ x.first.0
   pub chained : (k : ℕ) (row next : StepRow) → slice_get x.rows k ≡ Some row → slice_get x.rows (k + 1) ≡ Some next
       → next.s.0 ≡ row.s2.0
 
--- at most 128 boxes and 32 trains, each in itself, and no two trains start on one segment
+-- no more boxes and trains than a network may have, each right in itself, and no two trains start on one segment
 pub record IsLine (tables : Tables) : Type 0 where
-  pub few_boxes : length tables.boxes ≤ 128
-  pub few_trains : length tables.trains ≤ 32
+  pub few_boxes : length tables.boxes ≤ MAX_BOXES
+  pub few_trains : length tables.trains ≤ MAX_TRAINS
   pub boxes : (b : ℕ) (x : BoxTable) → slice_get tables.boxes b ≡ Some x → IsBox b x
   pub trains : (t : ℕ) (x : TrainTable) → slice_get tables.trains t ≡ Some x → IsTrain tables t x
   pub starts : (t u : ℕ) (x y : TrainTable) → slice_get tables.trains t ≡ Some x → slice_get tables.trains u ≡ Some y

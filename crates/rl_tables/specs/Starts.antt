@@ -26,12 +26,13 @@ abbrev pub layout_of : Tables → Layout
 layout_of tables = record { boxes = length tables.boxes; trains = length tables.trains }
 
 -- the train that starts on segment s, and so holds it at both its ends
-abbrev pub holder_of : Tables → ℕ → Option TrainId
-holder_of tables s = option_map (λ (x : TrainTable). x.number) (find (λ (x : TrainTable). x.first.0 == s) tables.trains)
+abbrev pub starter_of : Tables → ℕ → Option TrainId
+starter_of tables s =
+    option_map (λ (x : TrainTable). x.number) (find (λ (x : TrainTable). x.first.0 == s) tables.trains)
 
 -- who holds an arm: the train that starts on the segment there
 abbrev pub arm_holder : Tables → Option SegId → Option TrainId
-arm_holder tables (Some s) = holder_of tables s.0
+arm_holder tables (Some s) = starter_of tables s.0
 arm_holder tables None = None
 
 -- the reservations of a box

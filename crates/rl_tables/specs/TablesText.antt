@@ -11,11 +11,11 @@ use Rattle.rl_tables.specs.declared.table.BoxTable.{BoxTable}
 use Rattle.rl_tables.specs.declared.table.StepRow.{StepRow}
 use Rattle.rl_tables.specs.declared.table.TrainTable.{TrainTable}
 use Rattle.rl_tables.specs.declared.table.Tables.{Tables}
-use Rattle.rl_tables.specs.Starts.{holder_of}
+use Rattle.rl_tables.specs.Starts.{starter_of}
 
 -- the name of the train that holds segment s at the start, or a star
 abbrev pub holder_word : NetworkPlan → Tables → ℕ → List ℕ
-holder_word net tables s = option_map_or (λ (t : TrainId). train_name net t.0) (holder_of tables s) (codes "*")
+holder_word net tables s = option_map_or (λ (t : TrainId). train_name net t.0) (starter_of tables s) (codes "*")
 
 -- the line of arm i with segment s, if the box has that arm
 abbrev pub arm_line : NetworkPlan → Tables → ℕ → Option SegId → List ℕ

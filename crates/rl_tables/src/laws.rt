@@ -6,7 +6,7 @@ ghost use Rattle.rl_tables.specs.declared.table.Tables.{Tables};
 ghost use Rattle.rl_tables.specs.Tables.{IsStepRow, AreTablesOf};
 ghost use Rattle.rl_tables.specs.Kept.{IsLine};
 ghost use Rattle.rl_tables.specs.Ranges.{IsRowOf};
-ghost use Rattle.rl_tables.specs.Starts.{holder_of};
+ghost use Rattle.rl_tables.specs.Starts.{starter_of};
 
 /// What is said of the tables of a network leaves no choice, and they are a line in the network's range,
 /// in which the holder of a segment at the start is the train that starts there.
@@ -16,5 +16,5 @@ pub fn tables_of_networks()
     ensures rows { (net : NetworkPlan) (t k : ℕ) (row : StepRow) → IsNetwork net → IsStepRow net t k row
         → IsRowOf net row }
     ensures holders { (net : NetworkPlan) (tables : Tables) (t s : ℕ) → IsNetwork net → AreTablesOf net tables
-        → (option_map (λ u. u.0) (holder_of tables s) ≡ Some t) ↔ StartsOn net t s }
+        → (option_map (λ u. u.0) (starter_of tables s) ≡ Some t) ↔ StartsOn net t s }
 {}

@@ -3,7 +3,7 @@ ghost use Rattle.std.specs.Option.{option_copied};
 ghost use Rattle.rl_base.specs.declared.layout.WordKind.{WordKind};
 ghost use Rattle.rl_base.specs.Layout.{word_count, word_number, HasWord};
 ghost use Rattle.rl_words.specs.Resv.{FitsArm, FitsResv};
-ghost use Rattle.rl_tables.specs.Starts.{layout_of, holder_of, arm_holder, start_resv, start_payload};
+ghost use Rattle.rl_tables.specs.Starts.{layout_of, starter_of, arm_holder, start_resv, start_payload};
 
 use crate::line::Line;
 use crate::table::{BoxTable, TrainTable};
@@ -20,7 +20,7 @@ fn starter(trains: &[TrainTable], s: SegId) -> Option<&TrainTable>
 impl Line {
     /// The train that starts on the segment, and so holds it at the start.
     pub(crate) fn holder(&self, s: SegId) -> Option<TrainId>
-        ensures train { result ≡ holder_of self.now s.0 }
+        ensures train { result ≡ starter_of self.now s.0 }
         ensures there { IfSome result (λ t. t.0 < length self.now.trains) }
         ensures few { FitsArm result }
     {

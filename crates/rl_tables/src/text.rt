@@ -9,6 +9,7 @@ ghost use Rattle.rl_tables.specs.TablesText.{holder_word, arm_line, box_line, bo
 
 use crate::line::Line;
 use crate::table::{BoxTable, StepRow, TrainTable};
+use rl_base::limits::MAX_STEPS;
 use rl_base::{Arm, BoxId, NoMemory, SegId, kind_word, side_word};
 use rl_net::Network;
 use rl_text::Out;
@@ -109,7 +110,7 @@ fn put_step(out: &mut Out, net: &Network, k: u32, row: &StepRow) -> Result<(), N
 
 /// Appends the lines of the steps.
 fn put_steps(out: &mut Out, net: &Network, rows: &[StepRow]) -> Result<(), NoMemory>
-    requires short { length rows.now ≤ 64 }
+    requires short { length rows.now ≤ MAX_STEPS }
     requires rows { (k : ℕ) (row : StepRow) → slice_get rows.now k ≡ Some row → IsRowOf net.now row }
     ensures { OnOk result (out.new ≡ out.old ++ step_lines net.now 0 rows.now) }
 {
@@ -122,7 +123,7 @@ fn put_steps(out: &mut Out, net: &Network, rows: &[StepRow]) -> Result<(), NoMem
 /// Appends the line that names a train.
 fn put_train_line(out: &mut Out, net: &Network, x: &TrainTable) -> Result<(), NoMemory>
     requires there { IsTrainOf net.now x.now.number }
-    requires short { length x.now.rows ≤ 64 }
+    requires short { length x.now.rows ≤ MAX_STEPS }
     ensures { OnOk result (out.new ≡ out.old ++ train_line net.now x.now) }
 {
     out.text(b"train")?;
@@ -135,7 +136,7 @@ fn put_train_line(out: &mut Out, net: &Network, x: &TrainTable) -> Result<(), No
 /// Appends the line of a train and those of its steps.
 fn put_train(out: &mut Out, net: &Network, x: &TrainTable) -> Result<(), NoMemory>
     requires there { IsTrainOf net.now x.now.number }
-    requires short { length x.now.rows ≤ 64 }
+    requires short { length x.now.rows ≤ MAX_STEPS }
     requires rows { (k : ℕ) (row : StepRow) → slice_get x.now.rows k ≡ Some row → IsRowOf net.now row }
     ensures { OnOk result (out.new ≡ out.old ++ train_lines net.now x.now) }
 {
@@ -172,7 +173,7 @@ pub fn tables_text(alloc: Global, net: &Network, line: &Line) -> Result<Out, NoM
     requires { AreTablesOf net.now line.now }
     ensures { IfOk result (λ out. out ≡ tables_text net.now line.now) }
 {
-    let _layout = net.layout();
+    net.accepted();
     let mut out = Out::new(alloc);
     out.text(b"relis tables 1\n")?;
     put_boxes(&mut out, net, line)?;

@@ -1,5 +1,6 @@
 ghost use Rattle.std.specs.Prelude.{◌≡◌, ◌∷◌, ◌++◌, ℕ, List, [], OnOk, OnErr, decimal};
 ghost use Rattle.std.specs.List.{join_with_byte};
+ghost use Rattle.rl_text.specs.Output.{IsBeginningOf};
 ghost use Rattle.rl_text.specs.Words.{spaced, texts};
 
 use itoa::Buffer;
@@ -8,7 +9,7 @@ use std::alloc::Global;
 use std::marker::Model;
 
 /// A text that grows at its end. Contracts see it as its bytes. Where memory runs out while a word or a line
-/// is appended, a part of it may stand at the end.
+/// is appended, a part of it may stand behind what was there.
 #[derive(Debug, Drop)]
 pub struct Out {
     bytes: Vec<u8>,
@@ -50,7 +51,8 @@ impl Out {
 
     /// Appends a space and the word.
     pub fn word(&mut self, word: &[u8]) -> Result<(), NoMemory>
-        ensures { OnOk result (self.new ≡ self.old ++ 32 ∷ word.now) }
+        ensures appended { OnOk result (self.new ≡ self.old ++ 32 ∷ word.now) }
+        ensures begun { OnErr result (IsBeginningOf self.old self.new) }
     {
         self.text(b" ")?;
         self.text(word)
@@ -58,7 +60,8 @@ impl Out {
 
     /// Appends a space and the number.
     pub fn count(&mut self, n: u32) -> Result<(), NoMemory>
-        ensures { OnOk result (self.new ≡ self.old ++ 32 ∷ decimal n) }
+        ensures appended { OnOk result (self.new ≡ self.old ++ 32 ∷ decimal n) }
+        ensures begun { OnErr result (IsBeginningOf self.old self.new) }
     {
         self.text(b" ")?;
         self.number(u64::from(n))
@@ -66,7 +69,8 @@ impl Out {
 
     /// Appends the words, each after a space.
     fn words(&mut self, words: &[&[u8]]) -> Result<(), NoMemory>
-        ensures { OnOk result (self.new ≡ self.old ++ spaced (texts words.now)) }
+        ensures appended { OnOk result (self.new ≡ self.old ++ spaced (texts words.now)) }
+        ensures begun { OnErr result (IsBeginningOf self.old self.new) }
     {
         for word in words {
             self.word(word)?;
@@ -76,7 +80,9 @@ impl Out {
 
     /// Appends a line: the first word, the others each after a space, and LF.
     pub fn line(&mut self, first: &[u8], others: &[&[u8]]) -> Result<(), NoMemory>
-        ensures { OnOk result (self.new ≡ self.old ++ (join_with_byte 32 (first.now ∷ texts others.now) ++ 10 ∷ [])) }
+        ensures appended { OnOk result
+            (self.new ≡ self.old ++ (join_with_byte 32 (first.now ∷ texts others.now) ++ 10 ∷ [])) }
+        ensures begun { OnErr result (IsBeginningOf self.old self.new) }
     {
         self.text(first)?;
         self.words(others)?;

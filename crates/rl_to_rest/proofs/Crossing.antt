@@ -7,12 +7,12 @@ use Rattle.rl_nodes.specs.contracts.nodes.RunNode as node
 use Rattle.rl_nodes.specs.contracts.nodes.RunNode.TheInside as inside
 use Rattle.rl_record.specs.contracts.record.Record as log_type
 use Rattle.rl_rule.specs.contracts.seats.NodeSeat as seat_type
-use Rattle.rl_runs.specs.contracts.mind.Mind as mind_type
+use Rattle.rl_steps.specs.contracts.mind.Mind as mind_type
 use Rattle.rl_tables.specs.contracts.line.Line as line_type
 use Rattle.rl_record.proofs.record.Record.TheSendSync as log
 use Rattle.rl_rule.proofs.Crossing.{rails_sync}
 use Rattle.rl_rule.proofs.seats.NodeSeat.TheSendSync as seat
-use Rattle.rl_runs.proofs.mind.Mind.TheSendSync as mind
+use Rattle.rl_steps.proofs.mind.Mind.TheSendSync as mind
 use Rattle.rl_tables.proofs.line.Line.TheSendSync as line
 
 log_send : IsSend log_type.the_row

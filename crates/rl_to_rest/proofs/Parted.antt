@@ -1,10 +1,10 @@
 -- The parts of nodes that all rest.
-use Rattle.std.proofs.Common.{◌≡◌, ℕ, ◌<◌, true, List, length, slice_get, slice_index_or, Some, Result, Ok, Err, IfOk, ap, ◌∙◌, arith}
+use Rattle.std.proofs.Common.{◌≡◌, ℕ, ◌<◌, true, List, length, slice_get, slice_index_or, Some, Result, Ok, Err, IfOk, arith}
 use Rattle.std.specs.Prelude.{All}
 use Rattle.std.proofs.lemmas.Option.{slice_get_within, get_or_from_slice_get}
 use Rattle.rl_protocol.proofs.Moved.{item_there}
 use Rattle.rl_rule.specs.declared.rails.Rails.{Rails}
-use Rattle.rl_rule.specs.Seats.{line_of}
+use Rattle.rl_rule.specs.Seats.{rails_line}
 use Rattle.rl_nodes.specs.declared.parts.Part.{Part}
 use Rattle.rl_nodes.specs.Nodes.{Node, AreNodesOf, rests, is_at_rest}
 use Rattle.rl_nodes.specs.Parting.{ArePartsOf}
@@ -16,7 +16,7 @@ abbrev pub PartsRest : Type 0
 PartsRest =
     (rails : Rails) (limit i : ℕ) (nodes : List Node) (parts : List Part) (node : Node) (part : Part) → AreNodesOf rails limit nodes
     → ArePartsOf nodes parts → slice_get nodes i ≡ Some node → slice_get parts i ≡ Some part → rests node ≡ true
-    → is_at_rest (line_of rails) i part.mind ≡ true
+    → is_at_rest (rails_line rails) i part.mind ≡ true
 
 pub parted : {E : Type 0} (rails : Rails) (limit : ℕ) (laid nodes : List Node) (r : Result (List Part) E) → PartsRest → AreNodesOf rails limit laid
     → StillNodes laid nodes → All (λ (node : Node). rests node ≡ true) nodes → IfOk r (ArePartsOf nodes)

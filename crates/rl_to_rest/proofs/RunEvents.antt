@@ -1,21 +1,21 @@
 -- The events of a run: how many there are, on which words they are, and which moves they have.
-use Rattle.std.proofs.Common.{◌≡◌, ℕ, zero, suc, ◌+◌, ◌*◌, ◌^◌, ◌<◌, ◌≤◌, List, [], ◌∷◌, ◌++◌, length, slice_get, Option, Some, None, refl, sym, ap, ◌∙◌, subst, arith}
-use Rattle.std.specs.Prelude.{All, reverse, take, option_map, option_to_list, slice_index_or}
+use Rattle.std.proofs.Common.{ℕ, zero, suc, ◌+◌, ◌*◌, ◌<◌, ◌≤◌, List, [], ◌∷◌}
+use Rattle.std.proofs.Common.{◌++◌, length, slice_get, sym, subst, arith}
+use Rattle.std.specs.Prelude.{All, reverse, option_map, slice_index_or}
 use Rattle.std.proofs.lemmas.List.{reverse-append, reverse-reverse, length-reverse}
 use Rattle.std.proofs.lemmas.Nat.{mul-le}
 use Rattle.std.proofs.lemmas.Option.{slice_get_within}
+use Rattle.rl_base.specs.declared.limits.TheConstants.{MAX_TRAINS, MAX_TRIES, MAX_ATTEMPT_EVENTS}
+use Rattle.rl_base.specs.Numbers.{IsU32}
+use Rattle.rl_base.specs.Tries.{AreFewTries}
 use Rattle.rl_base.specs.Layout.{word_count}
-use Rattle.rl_core.specs.Replays.{before}
-use Rattle.rl_core.proofs.Replaying.{before_more}
-use Rattle.rl_model.specs.declared.moves.Move.{Move}
 use Rattle.rl_record.specs.declared.event.Event.{Event}
-use Rattle.rl_runs.specs.Run.{IsRun, state}
-use Rattle.rl_runs.specs.Sound.{IsSound}
-use Rattle.rl_runs.specs.Step.{node_step}
-use Rattle.rl_runs.specs.State.{event_at, next_stamp}
-use Rattle.rl_runs.proofs.Options.{from_then}
+use Rattle.rl_steps.specs.Run.{IsRun, state}
+use Rattle.rl_steps.specs.Sound.{IsSound}
+use Rattle.rl_steps.specs.Step.{node_step}
+use Rattle.rl_steps.specs.State.{event_at, next_stamp}
+use Rattle.rl_steps.proofs.Options.{from_then}
 use Rattle.rl_safety.specs.Counts.{attempts_of}
-use Rattle.rl_safety.specs.Moves.{move_of, moves_of}
 use Rattle.rl_tables.specs.declared.table.Tables.{Tables}
 use Rattle.rl_tables.specs.Kept.{IsLine}
 use Rattle.rl_tables.specs.Starts.{layout_of}
@@ -46,10 +46,10 @@ all_on n (x ∷ xs) (suc k) d on lt = all_on n xs k d on.1 (omega arith)
 -- what is so of the state after every run
 abbrev pub AreSound : Type 0
 AreSound =
-    (tables : Tables) (tries : ℕ) (events : List Event) → IsLine tables → tries ≤ 1000 → length events < 2 ^ 32 → IsRun tables tries events
+    (tables : Tables) (tries : ℕ) (events : List Event) → IsLine tables → AreFewTries tries → IsU32 (length events) → IsRun tables tries events
     → IsSound tables (length events) (state tables tries events)
 
-on_words : (tables : Tables) (tries : ℕ) (log : List Event) → AreSound → IsLine tables → tries ≤ 1000 → length log < 2 ^ 32 → IsRun tables tries log
+on_words : (tables : Tables) (tries : ℕ) (log : List Event) → AreSound → IsLine tables → AreFewTries tries → IsU32 (length log) → IsRun tables tries log
     → AreOn (word_count (layout_of tables)) log
 unfolding AreOn
 on_words tables tries [] sound line few short run = tt
@@ -63,23 +63,19 @@ on_words tables tries (e ∷ log) sound line few short run =
     (omega arith, on_words tables tries log sound line few (omega arith) run.0)
 
 -- the events of a run, oldest first, are on words that are there
-pub on_the_line : (tables : Tables) (tries : ℕ) (events : List Event) → AreSound → IsLine tables → tries ≤ 1000 → length events < 2 ^ 32
+pub on_the_line : (tables : Tables) (tries : ℕ) (events : List Event) → AreSound → IsLine tables → AreFewTries tries → IsU32 (length events)
     → IsRun tables tries (reverse events) → All (λ (e : Event). e.word.0 < word_count (layout_of tables)) events
 on_the_line tables tries events sound line few short run = λ k d lt.
     let n = word_count (layout_of tables) in
     let on = on-reverse n (reverse events) (on_words tables tries (reverse events) sound line few (omega (arith, length-reverse events)) run) in
     all_on n events k d (subst (λ (l : List Event). AreOn n l) (reverse-reverse events) on) lt
 
--- 32 trains with 1,000 attempts each
-most_attempts : (tables : Tables) (tries : ℕ) → IsLine tables → tries ≤ 1000 → length tables.trains * tries ≤ 32000
-most_attempts tables tries line few = mul-le (length tables.trains) tries 32 1000 line.few_trains few
+-- as many trains as a line may have, with as many attempts as each may have
+most_attempts : (tables : Tables) (tries : ℕ) → IsLine tables → AreFewTries tries → length tables.trains * tries ≤ MAX_TRAINS * MAX_TRIES
+most_attempts tables tries line few = mul-le (length tables.trains) tries MAX_TRAINS MAX_TRIES line.few_trains few
 
--- a run has few events, and few moves
-pub few_events : (tables : Tables) (tries : ℕ) (events : List Event) → IsLine tables → tries ≤ 1000
-    → attempts_of tables tries events ≤ length tables.trains * tries → length events ≤ 39 * attempts_of tables tries events → length events < 2 ^ 32
+-- a run has few events
+pub few_events : (tables : Tables) (tries : ℕ) (events : List Event) → IsLine tables → AreFewTries tries
+    → attempts_of tables tries events ≤ length tables.trains * tries → length events ≤ MAX_ATTEMPT_EVENTS * attempts_of tables tries events
+    → IsU32 (length events)
 few_events tables tries events line few posted made = omega (arith, most_attempts tables tries line few)
-
-pub few_moves : (tables : Tables) (tries : ℕ) (events : List Event) → IsLine tables → tries ≤ 1000
-    → attempts_of tables tries events ≤ length tables.trains * tries → length (moves_of tables events) ≤ 10 * attempts_of tables tries events
-    → length (moves_of tables events) < 2 ^ 32
-few_moves tables tries events line few posted made = omega (arith, most_attempts tables tries line few)

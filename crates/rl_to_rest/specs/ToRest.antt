@@ -6,8 +6,8 @@ use Rattle.rl_model.specs.declared.report.Report.{Report}
 use Rattle.rl_record.specs.declared.event.Event.{Event}
 use Rattle.rl_record.specs.Merge.{Falls}
 use Rattle.rl_tables.specs.declared.table.Tables.{Tables}
-use Rattle.rl_runs.specs.Run.{IsRun, state}
-use Rattle.rl_protocol.specs.Rest.{AllRest}
+use Rattle.rl_steps.specs.Run.{IsRun, state}
+use Rattle.rl_protocol.specs.Rest.{AllAtRest}
 use Rattle.rl_protocol.specs.TableLine.{line_of}
 use Rattle.rl_safety.specs.Reading.{read}
 use Rattle.rl_safety.specs.Reports.{report_of}
@@ -18,7 +18,7 @@ pub record IsReportToRest (tables : Tables) (tries : ℕ) (report : Report) : Ty
   pub events : List Event
   pub run : IsRun tables tries events
   pub order : Falls events
-  pub rest : AllRest (line_of tables) (read tables tries (state tables tries events))
+  pub rest : AllAtRest (line_of tables) (read tables tries (state tables tries events))
   pub report_is : report ≡ report_of tables tries events
 
 -- every train has arrived, or has spent its attempts

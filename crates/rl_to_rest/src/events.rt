@@ -1,7 +1,8 @@
-ghost use Rattle.std.specs.Prelude.{◌≡◌, ◌<◌, ◌≤◌, All, length, reverse, IfOk};
+ghost use Rattle.std.specs.Prelude.{◌≡◌, ◌<◌, All, length, reverse, IfOk};
+ghost use Rattle.rl_base.specs.Tries.{AreFewTries};
 ghost use Rattle.rl_base.specs.Layout.{node_count, word_count};
 ghost use Rattle.rl_core.specs.Reports.{AreMindsAfter};
-ghost use Rattle.rl_runs.specs.Run.{IsRun};
+ghost use Rattle.rl_steps.specs.Run.{IsRun};
 ghost use Rattle.rl_safety.specs.Moves.{moves_of};
 ghost use Rattle.rl_safety.specs.Reports.{report_of};
 ghost use Rattle.rl_tables.specs.Starts.{layout_of};
@@ -10,8 +11,8 @@ use rl_base::NoMemory;
 use rl_core::{Mind, move_of, report_of};
 use rl_model::{Moves, Report};
 use rl_record::Event;
-use rl_runs::sound_runs;
 use rl_safety::counted_events;
+use rl_steps::sound_runs;
 use rl_tables::Line;
 use std::alloc::Global;
 
@@ -37,7 +38,7 @@ pub fn report_of_events(
     events: &[Event],
     minds: &[Mind],
 ) -> Result<Report, NoMemory>
-    requires few_tries { tries ≤ 1000 }
+    requires few_tries { AreFewTries tries }
     requires run { IsRun line.now tries (reverse events.now) }
     requires minds { AreMindsAfter line.now tries (reverse events.now) minds.now }
     requires nodes { length minds.now ≡ node_count (layout_of line.now) }

@@ -4,7 +4,7 @@ ghost use Rattle.rl_nodes.specs.Nodes.{rests};
 ghost use Rattle.rl_to_rest.specs.Going.{StillNodes};
 
 use rl_base::NoMemory;
-use rl_nodes::{Nodes, RunNode, kept_nodes, replaced_all, top_up_all, topped_up_nodes};
+use rl_nodes::{Nodes, RunNode, kept_nodes, top_up_all, topped_up_nodes};
 use rl_outside::Gate;
 use rl_runner::{Turner, rounds};
 use std::sync::Wait;
@@ -50,13 +50,11 @@ pub fn go_to_rest<R: Threads + Wait + Sync, G: Gate>(
     ensures kept { OnOk result (StillNodes nodes.old nodes.new) }
     ensures rest { OnOk result (All (λ node. rests node ≡ true) nodes.new) }
 {
-    // What is lent comes back whole, for the proof.
-    replaced_all::<RunNode<'_>>();
     for _ in rt.forever() {
         if all_rest(nodes.as_slice()) {
             return Ok(());
         }
-        go_round(rt, nodes.nodes_mut(), gate, turns, workers)?;
+        go_round(rt, nodes.as_mut_slice(), gate, turns, workers)?;
     }
     unreachable!()
 }

@@ -1,10 +1,11 @@
 ghost use Rattle.std.specs.Prelude.{◌≡◌, ◌≤◌, ◌<◌, length, IfOk};
+ghost use Rattle.rl_base.specs.Tries.{AreFewTries};
 ghost use Rattle.rl_base.specs.Layout.{node_count};
 ghost use Rattle.rl_model.specs.declared.network.NetworkPlan.{NetworkPlan};
 ghost use Rattle.rl_model.specs.Network.{IsNetwork};
 ghost use Rattle.rl_model.specs.Reports.{IsReportOf, IsRightReport};
 ghost use Rattle.rl_nodes.specs.Laying.{AreSeatsOf};
-ghost use Rattle.rl_rule.specs.Seats.{line_of, tries_of};
+ghost use Rattle.rl_rule.specs.Seats.{rails_line, rails_tries};
 ghost use Rattle.rl_tables.specs.Starts.{layout_of};
 ghost use Rattle.rl_tables.specs.Tables.{AreTablesOf};
 ghost use Rattle.rl_to_rest.specs.Going.{ArePartsAtRest};
@@ -19,8 +20,8 @@ use rl_model::Report;
 use rl_nodes::{Parts, Seats, all_seats, finish, lay_nodes, part, parts_at_rest};
 use rl_outside::Gate;
 use rl_rule::Rails;
-use rl_runs::sound_runs;
 use rl_safety::right_reports;
+use rl_steps::sound_runs;
 use rl_tables::Line;
 use std::alloc::Global;
 use std::sync::Wait;
@@ -45,9 +46,9 @@ fn run_to_rest<R: Threads + Wait + Sync, G: Gate>(
     pace: Pace,
     gate: &G,
 ) -> Result<Parts, NoMemory>
-    requires line { line.now ≡ line_of rails.now }
-    requires tries { tries ≡ tries_of rails.now }
-    requires few_tries { tries ≤ 1000 }
+    requires line { line.now ≡ rails_line rails.now }
+    requires tries { tries ≡ rails_tries rails.now }
+    requires few_tries { AreFewTries tries }
     requires some { 0 < node_count (layout_of line.now) }
     requires seats { AreSeatsOf rails.now seats }
     requires workers { 1 ≤ pace.workers }
@@ -68,7 +69,7 @@ fn report_on_rails<R: Threads + Wait + Sync, G: Gate>(
     pace: Pace,
     gate: &G,
 ) -> Result<Report, NoMemory>
-    requires few_tries { tries ≤ 1000 }
+    requires few_tries { AreFewTries tries }
     requires some { 0 < length line.now.trains }
     requires workers { 1 ≤ pace.workers }
     ensures { IfOk result (IsReportToRest line.now tries) }
@@ -100,7 +101,7 @@ pub fn report<R: Threads + Wait + Sync, G: Gate>(
     gate: &G,
 ) -> Result<Report, NoMemory>
     requires some_tries { 1 ≤ tries }
-    requires few_tries { tries ≤ 1000 }
+    requires few_tries { AreFewTries tries }
     requires workers { 1 ≤ pace.workers }
     // It is the report of what the nodes did, which is a run to rest.
     ensures to_rest { IfOk result (IsReportToRest line.now tries) }

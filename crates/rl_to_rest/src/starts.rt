@@ -1,6 +1,6 @@
-ghost use Rattle.std.specs.Prelude.{◌≡◌, ◌≤◌, ◌<◌, [], ℕ, length, slice_get, Some, IfOk};
+ghost use Rattle.std.specs.Prelude.{◌≤◌, ◌<◌, [], length, IfOk};
 ghost use Rattle.std.specs.Bool.{OnTrue, OnFalse};
-ghost use Rattle.rl_tables.specs.declared.table.TrainTable.{TrainTable};
+ghost use Rattle.rl_base.specs.Tries.{AreFewTries};
 ghost use Rattle.rl_to_rest.specs.Starts.{NoneMoves};
 ghost use Rattle.rl_to_rest.specs.ToRest.{IsReportToRest};
 
@@ -29,7 +29,7 @@ pub fn rests_at_start(line: &Line) -> bool
 /// The report of no events, of trains that all rest.
 pub fn report_of_none(alloc: Global, line: &Line, tries: u32) -> Result<Report, NoMemory>
     requires some_tries { 1 ≤ tries }
-    requires few_tries { tries ≤ 1000 }
+    requires few_tries { AreFewTries tries }
     requires rest { NoneMoves line.now }
     ensures { IfOk result (IsReportToRest line.now tries) }
 {

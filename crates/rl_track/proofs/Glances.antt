@@ -5,8 +5,8 @@ use Rattle.rl_base.specs.declared.ids.BoxId.{BoxId}
 use Rattle.rl_base.specs.declared.ids.TrainId.{TrainId}
 use Rattle.rl_base.specs.declared.layout.WordKind.{WordKind}
 use Rattle.rl_words.specs.declared.lock.LockWord.TheVariants.{Asked, Moving}
-use Rattle.rl_words.specs.declared.run.RunWord.TheVariants.{Clear, Go, Across}
-use Rattle.rl_words.specs.declared.sense.SenseWord.TheVariants.{Quiet, Head, Tail}
+use Rattle.rl_words.specs.declared.run.RunWord.TheVariants.{Go, Across}
+use Rattle.rl_words.specs.declared.sense.SenseWord.TheVariants.{Quiet, Head}
 use Rattle.rl_words.specs.Lock.{packed_lock}
 use Rattle.rl_words.specs.Run.{packed_run}
 use Rattle.rl_words.specs.Sense.{packed_sense}

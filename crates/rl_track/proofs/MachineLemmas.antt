@@ -1,7 +1,8 @@
 -- The steps of a point machine: the function gives exactly those of the sentences, and what they keep to.
-use Rattle.std.proofs.Common.{◌≡◌, ℕ, ◌^◌, ◌<◌, ◌==◌, true, Some, refl, sym, ap, subst, ◌∙◌}
+use Rattle.std.proofs.Common.{◌≡◌, ℕ, ◌<◌, ◌==◌, true, Some, refl, sym, ap, subst, ◌∙◌}
 use Rattle.std.proofs.lemmas.Bool.{eqb-true, eq-eqb}
 use Rattle.std.proofs.lemmas.Option.{same_Some, some_pair_parts}
+use Rattle.rl_base.specs.Numbers.{IsU32}
 use Rattle.rl_base.specs.declared.ids.BoxId.{BoxId}
 use Rattle.rl_base.specs.declared.layout.Layout.{Layout}
 use Rattle.rl_base.specs.declared.layout.NodeKind.{NodeKind}
@@ -99,5 +100,5 @@ keeps reads small owns lay b mind kind payload new after there e =
       saw = p.reads;
       step = p.step;
       reads = record { kind_is = k.kind ∙ r.kind_is; fits = k.fits; packed = p.packs };
-      small = subst (λ n. n < 2 ^ 32) p.packs (small p.left k.fits);
+      small = subst (λ n. IsU32 n) p.packs (small p.left k.fits);
     }

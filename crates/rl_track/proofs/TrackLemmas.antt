@@ -1,7 +1,8 @@
 -- The steps of a track: the function gives exactly those of the sentences, and what they keep to.
-use Rattle.std.proofs.Common.{◌≡◌, ℕ, ◌^◌, ◌<◌, ◌==◌, true, Some, refl, sym, ap, subst, ◌∙◌, arith}
+use Rattle.std.proofs.Common.{◌≡◌, ℕ, ◌<◌, ◌==◌, true, Some, refl, sym, ap, subst, ◌∙◌, arith}
 use Rattle.std.proofs.lemmas.Bool.{eqb-true, eq-eqb}
 use Rattle.std.proofs.lemmas.Option.{same_Some, some_pair_parts}
+use Rattle.rl_base.specs.Numbers.{IsU32}
 use Rattle.rl_base.specs.declared.ids.TrainId.{TrainId}
 use Rattle.rl_base.specs.declared.layout.Layout.{Layout}
 use Rattle.rl_base.specs.declared.layout.NodeKind.{NodeKind}
@@ -132,7 +133,7 @@ abbrev pub ReadsWords : Type 0
 ReadsWords = (kind : WordKind) (n : ℕ) (word : Word) → read_word kind n ≡ Some word → IsReading kind n word
 
 abbrev pub PacksSmall : Type 0
-PacksSmall = (word : Word) → FitsWord word → packed_word word < 2 ^ 32
+PacksSmall = (word : Word) → FitsWord word → IsU32 (packed_word word)
 
 abbrev pub OwnsWords : Type 0
 OwnsWords = (lay : Layout) (word : Word) → HasWord lay (kind_of word) → HasNode lay (word_owner word) → FitsWord word
@@ -156,6 +157,6 @@ keeps reads small owns lay t mind kind payload new after there h e =
       saw = p.reads;
       step = p.step;
       reads = record { kind_is = k.kind ∙ r.kind_is; fits = k.fits; packed = p.packs };
-      small = subst (λ n. n < 2 ^ 32) p.packs (small p.left k.fits);
+      small = subst (λ n. IsU32 n) p.packs (small p.left k.fits);
       after_is = k.after_is;
     }

@@ -1,5 +1,6 @@
 -- What every step of a track and of a point machine keeps to.
-use Rattle.std.specs.Prelude.{◌≡◌, ℕ, ◌^◌, ◌<◌, Some}
+use Rattle.std.specs.Prelude.{◌≡◌, ℕ, Some}
+use Rattle.rl_base.specs.Numbers.{IsU32}
 use Rattle.rl_base.specs.declared.ids.BoxId.{BoxId}
 use Rattle.rl_base.specs.declared.ids.TrainId.{TrainId}
 use Rattle.rl_base.specs.declared.layout.Layout.{Layout}
@@ -23,7 +24,7 @@ pub record KeepsTrack (lay : Layout) (t : TrainId) (mind : TrackMind) (kind : Wo
   pub saw : read_word kind payload ≡ Some seen
   pub step : TrackStep t mind seen left after
   pub reads : IsReading kind new left
-  pub small : new < 2 ^ 32
+  pub small : IsU32 new
   pub after_is : IsTrackMind after
 
 -- a step changes the word that the machine looks at and owns, and leaves a value of that word there
@@ -36,4 +37,4 @@ pub record KeepsMachine (lay : Layout) (b : BoxId) (mind : MachineMind) (kind : 
   pub saw : read_word kind payload ≡ Some seen
   pub step : MachineStep b mind seen left after
   pub reads : IsReading kind new left
-  pub small : new < 2 ^ 32
+  pub small : IsU32 new

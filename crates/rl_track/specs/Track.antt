@@ -1,6 +1,7 @@
 -- The track of a train: its mind, and its steps, first as sentences, one for each line of the table of steps, then as
 -- a function.
-use Rattle.std.specs.Prelude.{ℕ, ◌+◌, ◌==◌, ◌≤◌, Option, Some, None, option_map, if◌then◌else◌}
+use Rattle.std.specs.Prelude.{ℕ, ◌+◌, ◌==◌, ◌<◌, ◌≤◌, Option, Some, None, option_map, if◌then◌else◌}
+use Rattle.rl_base.specs.declared.limits.TheConstants.{MAX_STEPS}
 use Rattle.rl_base.specs.declared.ids.TrainId.{TrainId}
 use Rattle.rl_base.specs.declared.layout.WordKind.{WordKind}
 use Rattle.rl_base.specs.declared.layout.WordKind.TheVariants as kinds
@@ -23,10 +24,10 @@ start_track = track_at 0 Watch
 
 -- a route has at most 64 steps, and while the track watches it may be at their end
 abbrev pub MayBeAt : ℕ → TrackPhase → Type 0
-MayBeAt k Watch = k ≤ 64
-MayBeAt k HeadDue = k ≤ 63
-MayBeAt k LeaveDue = k ≤ 63
-MayBeAt k TailDue = k ≤ 63
+MayBeAt k Watch = k ≤ MAX_STEPS
+MayBeAt k HeadDue = k < MAX_STEPS
+MayBeAt k LeaveDue = k < MAX_STEPS
+MayBeAt k TailDue = k < MAX_STEPS
 
 abbrev pub IsTrackMind : TrackMind → Type 0
 IsTrackMind mind = MayBeAt mind.step mind.phase

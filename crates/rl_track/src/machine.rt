@@ -1,4 +1,5 @@
 ghost use Rattle.std.specs.Prelude.{◌≡◌, ◌<◌, ◌≤◌, false, None, IfSome, option_map};
+ghost use Rattle.rl_base.specs.declared.limits.TheConstants.{MAX_BOXES, MAX_TRAINS};
 ghost use Rattle.rl_base.specs.declared.ids.BoxId.{BoxId};
 ghost use Rattle.rl_base.specs.declared.layout.WordKind.{WordKind};
 ghost use Rattle.rl_base.specs.Layout.{word_count, word_number};
@@ -38,8 +39,8 @@ fn may_move(payload: u32) -> bool
 impl MachineMind {
     /// The word at which the machine of the box looks.
     pub fn target(&self, lay: &Layout, b: BoxId) -> WordNo
-        requires boxes { lay.now.boxes ≤ 128 }
-        requires trains { lay.now.trains ≤ 32 }
+        requires boxes { lay.now.boxes ≤ MAX_BOXES }
+        requires trains { lay.now.trains ≤ MAX_TRAINS }
         requires there { b.0 < lay.now.boxes }
         ensures number { result.0 ≡ word_number lay.now (machine_target b) }
         ensures within { result.0 < word_count lay.now }
@@ -60,7 +61,7 @@ impl MachineMind {
     }
 
     /// A glance at a payload, before it is unpacked: where it says no, the machine has no step there.
-    pub fn may_step(&self, payload: u32) -> bool
+    fn may_step(&self, payload: u32) -> bool
         ensures glance { result ≡ may_move payload }
         ensures none { (b : BoxId) (kind : WordKind) → result ≡ false → machine_step b self.now kind payload ≡ None }
     {

@@ -1,4 +1,5 @@
 ghost use Rattle.std.specs.Prelude.{◌≡◌, ◌<◌, ◌≤◌, false, None, IfSome};
+ghost use Rattle.rl_base.specs.declared.limits.TheConstants.{MAX_BOXES, MAX_TRAINS};
 ghost use Rattle.rl_base.specs.declared.ids.TrainId.{TrainId};
 ghost use Rattle.rl_base.specs.declared.layout.WordKind.{WordKind};
 ghost use Rattle.rl_base.specs.Layout.{word_count, word_number};
@@ -42,8 +43,8 @@ impl TrackMind {
 
     /// The word at which the track of the train looks.
     pub fn target(&self, lay: &Layout, t: TrainId) -> WordNo
-        requires boxes { lay.now.boxes ≤ 128 }
-        requires trains { lay.now.trains ≤ 32 }
+        requires boxes { lay.now.boxes ≤ MAX_BOXES }
+        requires trains { lay.now.trains ≤ MAX_TRAINS }
         requires there { t.0 < lay.now.trains }
         ensures number { result.0 ≡ word_number lay.now (track_target t self.now) }
         ensures within { result.0 < word_count lay.now }
@@ -70,7 +71,7 @@ impl TrackMind {
 
     /// A glance at a payload, before it is unpacked: whether its lowest two bits are those of the word that the track
     /// waits for. Where it says no, the track has no step there.
-    pub fn may_step(&self, payload: u32) -> bool
+    fn may_step(&self, payload: u32) -> bool
         ensures glance { result ≡ may_report self.now payload }
         ensures none { (t : TrainId) (kind : WordKind) → result ≡ false → track_step t self.now kind payload ≡ None }
     {

@@ -1,5 +1,5 @@
 -- At a payload of which a glance says no, a train has no step.
-use Rattle.std.proofs.Common.{◌≡◌, ℕ, ◌%◌, ◌==◌, true, false, Bool, Option, Some, None, refl, sym, ap, ◌∙◌, arith}
+use Rattle.std.proofs.Common.{◌≡◌, ℕ, ◌%◌, ◌==◌, true, false, Option, Some, None, refl, sym, ap, ◌∙◌, arith}
 use Rattle.std.proofs.lemmas.Bool.{eq-eqb, or_left, or_right, true≢false}
 use Rattle.rl_base.specs.declared.job.Job.{Job}
 use Rattle.rl_base.specs.declared.job.Job.TheVariants.{Near, Far, Lock, Pass, Unlock, FreeNear, FreeFar, DropFar, DropNear}
@@ -13,7 +13,7 @@ use Rattle.rl_words.specs.Word.{Word, FitsWord, packed_word}
 use Rattle.rl_tables.specs.declared.table.StepRow.{StepRow}
 use Rattle.rl_tables.specs.declared.table.TrainTable.{TrainTable}
 use Rattle.rl_train.specs.declared.mind.TrainMind.{TrainMind}
-use Rattle.rl_train.specs.Glance.{answers, may_hear}
+use Rattle.rl_train.specs.Glance.{may_hear}
 use Rattle.rl_train.specs.Jobs.{letter, is_pass}
 use Rattle.rl_train.specs.Steps.{TrainStep, train_step}
 use Rattle.rl_train.specs.Steps.TrainStep.{post, hear_yes, hear_no, go, quiet}
@@ -22,6 +22,7 @@ use Rattle.rl_train.proofs.StepLaws.{ReadsWords, step_front}
 
 -- a job with a letter isn't the one that passes
 has_letter : (row : StepRow) (job : Job) (l : Letter) → letter row job ≡ Some l → is_pass job ≡ false
+unfolding letter is_pass
 has_letter row Near l is = refl
 has_letter row Far l is = refl
 has_letter row Lock l is = refl
@@ -35,6 +36,7 @@ has_letter row DropNear l is = refl
 -- where a step fits, the glance says so
 sees : (table : TrainTable) (mind : TrainMind) (word next : Word) (after : TrainMind) → TrainStep table mind word next after → FitsWord word
     → may_hear mind.waits mind.job (packed_word word) ≡ true
+unfolding is_pass
 sees table mind _ _ _ (post row l here is waits rests) fits = rw waits refl
 sees table mind _ _ _ (hear_yes row l here is waits) fits =
     let low : packed_mail (Yes l) % 8 ≡ 3 = omega arith in

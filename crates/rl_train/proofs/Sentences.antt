@@ -22,7 +22,7 @@ use Rattle.rl_tables.specs.declared.table.StepRow.{StepRow}
 use Rattle.rl_tables.specs.declared.table.TrainTable.{TrainTable}
 use Rattle.rl_train.specs.declared.mind.TrainMind.{TrainMind}
 use Rattle.rl_train.specs.Jobs.{letter, asks, is_pass}
-use Rattle.rl_train.specs.Mind.{row_of, is_resting}
+use Rattle.rl_train.specs.Mind.{row_of, at_rest}
 use Rattle.rl_train.specs.Steps.{posted, heard, denied, TrainStep, mail_turn, on_mail, on_run, on_sense, train_on}
 use Rattle.rl_train.specs.Steps.TrainStep.{post, hear_yes, hear_no, go, quiet}
 
@@ -42,6 +42,7 @@ asked same None l e = absurd (cc)
 asked same (Some a) l e = ap Some (same a l e)
 
 pass_is : (job : Job) → is_pass job ≡ true → job ≡ Pass
+unfolding is_pass
 pass_is Near e = absurd (cc)
 pass_is Far e = absurd (cc)
 pass_is Lock e = absurd (cc)
@@ -160,8 +161,9 @@ module _ (table : TrainTable) (mind : TrainMind) where
   sense_back v r e = rw (itself table.number.0, e) refl
 
   back : ComparesItself → (word next : Word) (after : TrainMind) → TrainStep table mind word next after → train_on table mind word ≡ Some (next, after)
+  unfolding is_pass
   back same _ _ _ (post row l here is waits rests) =
-      let off : (mind.waits || is_resting table mind) ≡ false = or_from mind.waits _ waits rests in
+      let off : (mind.waits || at_rest table mind) ≡ false = or_from mind.waits _ waits rests in
       mail_back Empty row (Ask l, posted mind) here (rw (off, is) refl)
   back same _ _ _ (hear_yes row l here is waits) =
       let on : (mind.waits && asks row mind.job l) ≡ true = and_from mind.waits _ waits (asks_own same (letter row mind.job) l is) in

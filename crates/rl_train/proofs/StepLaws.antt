@@ -1,7 +1,8 @@
 -- The laws of the steps of a train.
-use Rattle.std.proofs.Common.{◌≡◌, ℕ, ◌^◌, ◌<◌, true, false, Some, refl, sym, ap, subst, ◌∙◌, arith}
+use Rattle.std.proofs.Common.{◌≡◌, ℕ, ◌<◌, true, false, Some, refl, sym, ap, subst, ◌∙◌, arith}
 use Rattle.std.proofs.lemmas.Bool.{and_right}
 use Rattle.std.proofs.lemmas.Option.{same_Some, some_pair_parts}
+use Rattle.rl_base.specs.Numbers.{IsU32}
 use Rattle.rl_base.specs.declared.job.Job.{Job}
 use Rattle.rl_base.specs.declared.job.Job.TheVariants.{Near, Far, Lock, Pass, Unlock, FreeNear, FreeFar, DropFar, DropNear}
 use Rattle.rl_base.specs.declared.layout.Layout.{Layout}
@@ -20,7 +21,7 @@ use Rattle.rl_tables.specs.declared.table.TrainTable.{TrainTable}
 use Rattle.rl_train.specs.declared.mind.TrainMind.{TrainMind}
 use Rattle.rl_train.specs.Jobs.{letter, is_near, is_pass}
 use Rattle.rl_train.specs.Kept.{IsTrainOn, KeepsTrain}
-use Rattle.rl_train.specs.Mind.{is_resting, IsTrainMind, CanBeNamed, IsUsable}
+use Rattle.rl_train.specs.Mind.{at_rest, IsTrainMind, CanBeNamed, IsUsable}
 use Rattle.rl_train.specs.Steps.{TrainStep, train_on, train_step, train_target}
 use Rattle.rl_train.specs.Steps.TrainStep.{post, hear_yes, hear_no, go, quiet}
 use Rattle.rl_train.proofs.KeptLemmas.{heard_kept, denied_kept, posted_kept, passing_on_route, gone_kept, quiet_kept}
@@ -69,6 +70,7 @@ has_word lay table mind _ _ _ there (quiet is waits) = there
 
 -- who has a letter doesn't pass
 not_pass : (row : StepRow) (job : Job) (l : Letter) → letter row job ≡ Some l → is_pass job ≡ false
+unfolding letter is_pass
 not_pass row Near l e = refl
 not_pass row Far l e = refl
 not_pass row Lock l e = refl
@@ -80,18 +82,20 @@ not_pass row DropFar l e = refl
 not_pass row DropNear l e = refl
 
 -- who waits isn't at rest, nor is who passes
-waiting_on : (table : TrainTable) (mind : TrainMind) → mind.waits ≡ true → is_resting table mind ≡ false
+waiting_on : (table : TrainTable) (mind : TrainMind) → mind.waits ≡ true → at_rest table mind ≡ false
 waiting_on table mind waits = and_right (is_near mind.job) _ (rw waits refl)
 
-passing_on : (table : TrainTable) (mind : TrainMind) → mind.job ≡ Pass → is_resting table mind ≡ false
+passing_on : (table : TrainTable) (mind : TrainMind) → mind.job ≡ Pass → at_rest table mind ≡ false
+unfolding is_near
 passing_on table mind is = rw is refl
 
-at_mail : (table : TrainTable) (mind : TrainMind) → is_resting table mind ≡ false → is_pass mind.job ≡ false
+at_mail : (table : TrainTable) (mind : TrainMind) → at_rest table mind ≡ false → is_pass mind.job ≡ false
     → train_target table mind ≡ Some (kinds.Mail table.number)
 at_mail table mind rests pass = rw (rests, pass) refl
 
 looks : (table : TrainTable) (mind : TrainMind) (word next : Word) (after : TrainMind) → TrainStep table mind word next after
     → train_target table mind ≡ Some (kind_of word)
+unfolding is_pass
 looks table mind _ _ _ (post row l here is waits rests) = at_mail table mind rests (not_pass row mind.job l is)
 looks table mind _ _ _ (hear_yes row l here is waits) = at_mail table mind (waiting_on table mind waits) (not_pass row mind.job l is)
 looks table mind _ _ _ (hear_no row l u next here is then_job waits) = at_mail table mind (waiting_on table mind waits) (not_pass row mind.job l is)
@@ -106,6 +110,7 @@ looks table mind _ _ _ (quiet is waits) =
 
 -- the letter of a job can be packed
 letter_fits : (row : StepRow) (job : Job) (l : Letter) → CanBeNamed row → letter row job ≡ Some l → FitsLetter l
+unfolding letter
 letter_fits row Near l n e = subst FitsLetter (same_Some _ l e) (record { to = n.b; x = n.y; y = omega arith; arms = refl })
 letter_fits row Far l n e = subst FitsLetter (same_Some _ l e) (record { to = n.c; x = n.c_arm; y = omega arith; arms = refl })
 letter_fits row Lock l n e = subst FitsLetter (same_Some _ l e) (record { to = n.b; x = n.x; y = n.y; arms = n.apart })
@@ -135,7 +140,7 @@ abbrev pub ReadsWords : Type 0
 ReadsWords = (kind : WordKind) (n : ℕ) (word : Word) → read_word kind n ≡ Some word → IsReading kind n word
 
 abbrev pub PacksSmall : Type 0
-PacksSmall = (word : Word) → FitsWord word → packed_word word < 2 ^ 32
+PacksSmall = (word : Word) → FitsWord word → IsU32 (packed_word word)
 
 abbrev pub OwnsWords : Type 0
 OwnsWords = (lay : Layout) (word : Word) → HasWord lay (kind_of word) → HasNode lay (word_owner word) → FitsWord word
@@ -162,6 +167,6 @@ keeps same reads small owns lay table mind kind payload new after on e =
       saw = p.reads;
       step = p.step;
       reads = record { kind_is = same_kind table mind p.seen p.left after p.step ∙ r.kind_is; fits = stays.0; packed = p.packs };
-      small = subst (λ n. n < 2 ^ 32) p.packs (small p.left stays.0);
+      small = subst (λ n. IsU32 n) p.packs (small p.left stays.0);
       after_is = stays.1;
     }

@@ -1,6 +1,7 @@
 -- The table of each train of a line is one by which a train can step.
 use Rattle.std.proofs.Common.{◌≡◌, ℕ, ◌<◌, ◌≤◌, length, Some, slice_get, arith}
 use Rattle.std.proofs.lemmas.Option.{slice_get_within}
+use Rattle.rl_base.specs.declared.limits.TheConstants.{MAX_BOXES}
 use Rattle.rl_base.specs.declared.kind.Kind.{Kind}
 use Rattle.rl_base.specs.declared.kind.Kind.TheVariants.{Buffer, Joint, Point, Crossing}
 use Rattle.rl_base.specs.Kind.{arms_of}
@@ -16,13 +17,13 @@ few_arms Joint = omega arith
 few_arms Point = omega arith
 few_arms Crossing = omega arith
 
-few_boxes : (tables : Tables) (b arm s : ℕ) → length tables.boxes ≤ 128 → IsArm tables b arm s → b < 128
+few_boxes : (tables : Tables) (b arm s : ℕ) → length tables.boxes ≤ MAX_BOXES → IsArm tables b arm s → b < MAX_BOXES
 few_boxes tables b arm s few a = let there = a.box in omega arith
 
 low_arm : (tables : Tables) (b arm s : ℕ) → IsArm tables b arm s → arm < 4
 low_arm tables b arm s a = let among = a.among in let most = few_arms (line_kind tables b) in omega arith
 
-named : (tables : Tables) (row : StepRow) → length tables.boxes ≤ 128 → IsRow tables row → CanBeNamed row
+named : (tables : Tables) (row : StepRow) → length tables.boxes ≤ MAX_BOXES → IsRow tables row → CanBeNamed row
 named tables row few r =
     record {
       b = few_boxes tables _ _ _ few r.near;

@@ -1,5 +1,7 @@
 -- What every step of a train keeps to.
-use Rattle.std.specs.Prelude.{◌≡◌, ℕ, ◌^◌, ◌<◌, ◌≤◌, Some}
+use Rattle.std.specs.Prelude.{◌≡◌, ℕ, ◌<◌, ◌≤◌, Some}
+use Rattle.rl_base.specs.declared.limits.TheConstants.{MAX_BOXES, MAX_TRAINS}
+use Rattle.rl_base.specs.Numbers.{IsU32}
 use Rattle.rl_base.specs.declared.layout.Layout.{Layout}
 use Rattle.rl_base.specs.declared.layout.NodeKind.TheVariants as nodes
 use Rattle.rl_base.specs.declared.layout.WordKind.{WordKind}
@@ -13,8 +15,8 @@ use Rattle.rl_train.specs.Steps.{TrainStep, train_target}
 
 -- a train of a line, with a well-formed mind
 pub record IsTrainOn (lay : Layout) (table : TrainTable) (mind : TrainMind) : Type 0 where
-  pub boxes : lay.boxes ≤ 128
-  pub trains : lay.trains ≤ 32
+  pub boxes : lay.boxes ≤ MAX_BOXES
+  pub trains : lay.trains ≤ MAX_TRAINS
   pub there : table.number.0 < lay.trains
   pub table_is : IsUsable table
   pub mind_is : IsTrainMind table mind
@@ -29,5 +31,5 @@ pub record KeepsTrain (lay : Layout) (table : TrainTable) (mind : TrainMind) (ki
   pub saw : read_word kind payload ≡ Some seen
   pub step : TrainStep table mind seen left after
   pub reads : IsReading kind new left
-  pub small : new < 2 ^ 32
+  pub small : IsU32 new
   pub after_is : IsTrainMind table after

@@ -1,10 +1,13 @@
 -- The mind of a train: at the start, at rest, and what is true of it at all times.
-use Rattle.std.specs.Prelude.{◌≡◌, ℕ, ◌+◌, ◌<◌, ◌≤◌, ◌≢◌, ◌==◌, Bool, false, not, ◌&&◌, ◌||◌, length, slice_get, Option, Some, if◌then◌else◌}
+use Rattle.std.specs.Prelude.{◌≡◌, ℕ, ◌+◌, ◌<◌, ◌≤◌, ◌≢◌, ◌==◌, Bool, false, not, ◌&&◌, ◌||◌, length, slice_get, Option}
+use Rattle.std.specs.Prelude.{Some, if◌then◌else◌}
+use Rattle.rl_base.specs.declared.limits.TheConstants.{MAX_BOXES, MAX_STEPS, MAX_TRAINS}
+use Rattle.rl_base.specs.Tries.{AreFewTries}
 use Rattle.rl_base.specs.declared.job.Job.TheVariants.{Near}
 use Rattle.rl_tables.specs.declared.table.StepRow.{StepRow}
 use Rattle.rl_tables.specs.declared.table.TrainTable.{TrainTable}
 use Rattle.rl_train.specs.declared.mind.TrainMind.{TrainMind}
-use Rattle.rl_train.specs.Jobs.{is_near, is_trying}
+use Rattle.rl_train.specs.Jobs.{is_near, is_open}
 
 -- at its first step, about to reserve, with so many attempts left
 abbrev pub start_train : ℕ → TrainMind
@@ -15,32 +18,33 @@ abbrev pub row_of : TrainTable → TrainMind → Option StepRow
 row_of table mind = slice_get table.rows mind.step
 
 -- it could begin a step, and is at the end of its route or has no attempt left
-abbrev pub is_resting : TrainTable → TrainMind → Bool
-is_resting table mind = is_near mind.job && (not mind.waits && (mind.step == length table.rows || mind.left == 0))
+abbrev pub at_rest : TrainTable → TrainMind → Bool
+at_rest table mind = is_near mind.job && (not mind.waits && (mind.step == length table.rows || mind.left == 0))
 
 -- the attempts that it has left, has used for steps made and refusals, and has under way
 abbrev pub attempts : TrainMind → ℕ
-attempts mind = mind.left + mind.step + mind.refused + (if is_trying mind.job mind.waits then 1 else 0)
+attempts mind = mind.left + mind.step + mind.refused + (if is_open mind.job mind.waits then 1 else 0)
 
--- its step is one of its route, or it is at the end of the route and about to begin a step; at most 1000 attempts
+-- its step is one of its route, or it is at the end of the route and about to begin a step; no more
+-- attempts than a train may be given
 pub record IsTrainMind (table : TrainTable) (mind : TrainMind) : Type 0 where
   pub within : mind.step ≤ length table.rows
   pub on_route : (is_near mind.job && not mind.waits) ≡ false → mind.step < length table.rows
-  pub few : attempts mind ≤ 1000
+  pub few : AreFewTries (attempts mind)
 
 -- a letter can name the boxes and the arms of the row
 pub record CanBeNamed (row : StepRow) : Type 0 where
-  pub b : row.b.0 < 128
+  pub b : row.b.0 < MAX_BOXES
   pub x : row.x.0 < 4
   pub y : row.y.0 < 4
   pub apart : row.x.0 ≢ row.y.0
-  pub c : row.c.0 < 128
+  pub c : row.c.0 < MAX_BOXES
   pub c_arm : row.c_arm.0 < 4
-  pub a : row.a.0 < 128
+  pub a : row.a.0 < MAX_BOXES
   pub a_arm : row.a_arm.0 < 4
 
 -- the table of a train in a line: at most 64 steps, each of which letters can name
 pub record IsUsable (table : TrainTable) : Type 0 where
-  pub number : table.number.0 < 32
-  pub short : length table.rows ≤ 64
+  pub number : table.number.0 < MAX_TRAINS
+  pub short : length table.rows ≤ MAX_STEPS
   pub rows : (k : ℕ) (row : StepRow) → slice_get table.rows k ≡ Some row → CanBeNamed row

@@ -1,5 +1,6 @@
 -- The steps of a train: first as sentences, one for each line of the table of steps, then as a function.
-use Rattle.std.specs.Prelude.{◌≡◌, ℕ, ◌+◌, ◌-◌, ◌==◌, true, false, not, ◌&&◌, ◌||◌, Option, Some, None, option_map, option_and_then, if◌then◌else◌}
+use Rattle.std.specs.Prelude.{◌≡◌, ℕ, ◌+◌, ◌-◌, ◌==◌, true, false, not, ◌&&◌, ◌||◌, Option, Some, None, option_map}
+use Rattle.std.specs.Prelude.{option_and_then, if◌then◌else◌}
 use Rattle.rl_base.specs.declared.ids.TrainId.{TrainId}
 use Rattle.rl_base.specs.declared.job.Job.{Job}
 use Rattle.rl_base.specs.declared.job.Job.TheVariants.{Pass, Unlock}
@@ -18,7 +19,7 @@ use Rattle.rl_tables.specs.declared.table.StepRow.{StepRow}
 use Rattle.rl_tables.specs.declared.table.TrainTable.{TrainTable}
 use Rattle.rl_train.specs.declared.mind.TrainMind.{TrainMind}
 use Rattle.rl_train.specs.Jobs.{letter, after_yes, after_no, asks, is_near, is_pass, ends_step}
-use Rattle.rl_train.specs.Mind.{row_of, is_resting}
+use Rattle.rl_train.specs.Mind.{row_of, at_rest}
 
 -- the mind after a post, which in Near uses up an attempt
 abbrev pub posted : TrainMind → TrainMind
@@ -45,7 +46,7 @@ pub data TrainStep (table : TrainTable) (mind : TrainMind) : Word → Word → T
   post :
       (row : StepRow) (l : Letter)
       → row_of table mind ≡ Some row → letter row mind.job ≡ Some l → mind.waits ≡ false
-      → is_resting table mind ≡ false
+      → at_rest table mind ≡ false
       → TrainStep table mind (Mail table.number Empty) (Mail table.number (Ask l)) (posted mind)
   -- the box has said yes to its letter
   hear_yes :
@@ -72,7 +73,7 @@ pub data TrainStep (table : TrainTable) (mind : TrainMind) : Word → Word → T
 -- what a train at this row does with its mail word
 abbrev pub mail_turn : TrainTable → TrainMind → MailWord → StepRow → Option (MailWord × TrainMind)
 mail_turn table mind Empty row =
-    if mind.waits || is_resting table mind then None else option_map (λ l. (Ask l, posted mind)) (letter row mind.job)
+    if mind.waits || at_rest table mind then None else option_map (λ l. (Ask l, posted mind)) (letter row mind.job)
 mail_turn table mind (Ask l) row = None
 mail_turn table mind (Taken l) row = None
 mail_turn table mind (Yes l) row = if mind.waits && asks row mind.job l then Some (Empty, heard row mind) else None
@@ -116,7 +117,7 @@ train_step table mind = packed_step (train_on table mind)
 -- the word at which the train looks, unless it is at rest
 abbrev pub train_target : TrainTable → TrainMind → Option WordKind
 train_target table mind =
-    if is_resting table mind
+    if at_rest table mind
     then None
     else (if is_pass mind.job
     then Some (if mind.waits then kinds.Sense table.number else kinds.Run table.number)

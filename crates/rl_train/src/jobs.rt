@@ -30,6 +30,7 @@ fn about_passage(row: &StepRow, verb: Verb) -> Letter
 }
 
 /// What the train asks of a box in the job, at the row of its step. `None` in the job that passes.
+#[tactic(auto, unfolding(crate::specs::Jobs::letter))]
 pub(crate) fn letter(row: &StepRow, job: Job) -> Option<Letter>
     requires { CanBeNamed row.now }
     ensures letter { result ≡ letter row.now job }
@@ -60,6 +61,7 @@ pub(crate) fn asks(row: &StepRow, job: Job, by: &Letter) -> bool
 }
 
 /// The job after yes, and after the passage, at the row of the step.
+#[tactic(auto, unfolding(crate::specs::Jobs::after_yes))]
 pub(crate) fn after_yes(_row: &StepRow, job: Job) -> Job
     ensures { result ≡ after_yes _row.now job }
 {
@@ -77,6 +79,7 @@ pub(crate) fn after_yes(_row: &StepRow, job: Job) -> Job
 }
 
 /// The job after no, at the row of the step. A release and an unlock are never refused.
+#[tactic(auto, unfolding(crate::specs::Jobs::after_no))]
 pub(crate) fn after_no(_row: &StepRow, job: Job) -> Option<Job>
     ensures { result ≡ after_no _row.now job }
 {
@@ -90,6 +93,7 @@ pub(crate) fn after_no(_row: &StepRow, job: Job) -> Option<Job>
 }
 
 /// Whether a post in this job opens an attempt.
+#[tactic(auto, unfolding(crate::specs::Jobs::is_near))]
 pub(crate) fn is_near(job: Job) -> bool
     ensures { result ≡ is_near job }
 {
@@ -97,6 +101,7 @@ pub(crate) fn is_near(job: Job) -> bool
 }
 
 /// Whether this is the job without a letter.
+#[tactic(auto, unfolding(crate::specs::Jobs::is_pass))]
 pub(crate) fn is_pass(job: Job) -> bool
     ensures { result ≡ is_pass job }
 {
@@ -104,6 +109,7 @@ pub(crate) fn is_pass(job: Job) -> bool
 }
 
 /// Whether the job ends the step.
+#[tactic(auto, unfolding(crate::specs::Jobs::ends_step))]
 pub(crate) fn ends_step(job: Job) -> bool
     ensures { result ≡ ends_step job }
 {

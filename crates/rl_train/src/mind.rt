@@ -1,6 +1,7 @@
-ghost use Rattle.std.specs.Prelude.{◌≡◌, ◌≤◌};
+ghost use Rattle.std.specs.Prelude.{◌≡◌};
+ghost use Rattle.rl_base.specs.Tries.{AreFewTries};
 ghost use Rattle.rl_tables.specs.declared.table.TrainTable.{TrainTable};
-ghost use Rattle.rl_train.specs.Mind.{start_train, is_resting, IsTrainMind};
+ghost use Rattle.rl_train.specs.Mind.{start_train, at_rest, IsTrainMind};
 
 use crate::jobs::is_near;
 use rl_base::Job;
@@ -20,9 +21,10 @@ pub struct TrainMind {
 
 impl TrainMind {
     /// At the first step, with so many attempts left.
+    #[tactic(auto, unfolding(crate::specs::Jobs::is_near, crate::specs::Jobs::is_open))]
     pub fn start(tries: u32) -> TrainMind
         ensures mind { result ≡ start_train tries }
-        ensures kept { tries ≤ 1000 → (table : TrainTable) → IsTrainMind table result }
+        ensures kept { AreFewTries tries → (table : TrainTable) → IsTrainMind table result }
     {
         TrainMind {
             step: 0,
@@ -35,7 +37,7 @@ impl TrainMind {
 
     /// Whether the train has arrived at the end of its route, or has spent its attempts.
     pub fn at_rest(&self, t: &TrainTable) -> bool
-        ensures { result ≡ is_resting t.now self.now }
+        ensures { result ≡ at_rest t.now self.now }
     {
         is_near(self.job) && !self.waits && (self.step as usize == t.rows.len() || self.left == 0)
     }

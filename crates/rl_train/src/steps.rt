@@ -1,5 +1,6 @@
 ghost use Rattle.std.specs.Prelude.{◌≡◌, ◌<◌, ◌≤◌, true, false, Some, None, IfSome, option_map, option_and_then};
 ghost use Rattle.std.specs.Option.{option_copied};
+ghost use Rattle.rl_base.specs.declared.limits.TheConstants.{MAX_BOXES, MAX_STEPS, MAX_TRAINS, MAX_TRIES};
 ghost use Rattle.rl_base.specs.declared.layout.WordKind.{WordKind};
 ghost use Rattle.rl_base.specs.Layout.{word_count, word_number};
 ghost use Rattle.rl_words.specs.Mail.{FitsMail};
@@ -8,7 +9,7 @@ ghost use Rattle.rl_words.specs.Sense.{FitsSense};
 ghost use Rattle.rl_tables.specs.declared.table.TrainTable.{TrainTable};
 ghost use Rattle.rl_train.specs.Glance.{may_hear};
 ghost use Rattle.rl_train.specs.Jobs.{after_no};
-ghost use Rattle.rl_train.specs.Mind.{row_of, is_resting, IsTrainMind, CanBeNamed, IsUsable};
+ghost use Rattle.rl_train.specs.Mind.{row_of, at_rest, IsTrainMind, CanBeNamed, IsUsable};
 ghost use Rattle.rl_train.specs.Steps.{posted, heard, denied, on_mail, on_run, on_sense, train_step, train_target};
 
 use crate::jobs::{after_no, after_yes, asks, ends_step, is_near, is_pass, letter};
@@ -21,8 +22,8 @@ use rl_words::{Letter, MailWord, RunWord, SenseWord};
 impl TrainMind {
     /// The word at which the train looks. `None` exactly at rest.
     pub fn target(&self, lay: &Layout, t: &TrainTable) -> Option<WordNo>
-        requires boxes { lay.now.boxes ≤ 128 }
-        requires trains { lay.now.trains ≤ 32 }
+        requires boxes { lay.now.boxes ≤ MAX_BOXES }
+        requires trains { lay.now.trains ≤ MAX_TRAINS }
         requires there { t.now.number.0 < lay.now.trains }
         ensures number { option_map (λ w. w.0) result ≡ option_map (word_number lay.now) (train_target t.now self.now) }
         ensures within { IfSome result (λ w. w.0 < word_count lay.now) }
@@ -55,10 +56,10 @@ impl TrainMind {
         }
     }
 
-    /// A glance at a payload, before it is unpacked: whether the train doesn't wait, or its lowest bits are those of the
-    /// word for which it waits, an answer, or that its tail is past the box. Where it says no, the train has no step
-    /// there.
-    pub fn may_step(&self, payload: u32) -> bool
+    /// A glance at a payload, before it is unpacked: whether the train doesn't wait, or its lowest bits are those of
+    /// the word for which it waits, an answer, or that its tail is past the box. Where it says no, the train has no
+    /// step there.
+    fn may_step(&self, payload: u32) -> bool
         ensures glance { result ≡ may_hear self.now.waits self.now.job payload }
         ensures none { (table : TrainTable) (kind : WordKind) → result ≡ false
             → train_step table self.now kind payload ≡ None }
@@ -75,7 +76,7 @@ impl TrainMind {
     }
 
     #[inline(never)]
-    #[tactic(auto, unfolding(crate::specs::Steps::train_step))]
+    #[tactic(auto, using(crate::proofs::KeptLemmas::pass_not_near), unfolding(crate::specs::Steps::train_step))]
     fn step(&self, t: &TrainTable, payload: u32) -> Option<(u32, TrainMind)>
         requires table { IsUsable t.now }
         requires mind { IsTrainMind t.now self.now }
@@ -140,7 +141,6 @@ impl TrainMind {
     }
 
     /// The box says yes to its letter.
-    #[tactic(auto, using(crate::proofs::KeptLemmas::heard_kept))]
     fn hear_yes(&self, t: &TrainTable, by: Letter) -> Option<(MailWord, TrainMind)>
         requires table { IsUsable t.now }
         requires mind { IsTrainMind t.now self.now }
@@ -157,6 +157,7 @@ impl TrainMind {
     }
 
     /// The box says no to its letter.
+    #[tactic(auto, using(crate::proofs::KeptLemmas::denied_kept))]
     fn hear_no(&self, t: &TrainTable, by: Letter, holder: TrainId) -> Option<(MailWord, TrainMind)>
         requires table { IsUsable t.now }
         requires mind { IsTrainMind t.now self.now }
@@ -174,6 +175,7 @@ impl TrainMind {
     }
 
     /// It goes into the box.
+    #[tactic(auto, unfolding(crate::specs::Jobs::is_near, crate::specs::Jobs::is_open, crate::specs::Jobs::is_pass))]
     fn on_run(&self, t: &TrainTable, word: RunWord) -> Option<(RunWord, TrainMind)>
         requires table { IsUsable t.now }
         requires mind { IsTrainMind t.now self.now }
@@ -194,6 +196,7 @@ impl TrainMind {
     }
 
     /// It hears that its tail is past the box.
+    #[tactic(auto, unfolding(crate::specs::Jobs::is_near, crate::specs::Jobs::is_open, crate::specs::Jobs::is_pass))]
     fn on_sense(&self, t: &TrainTable, word: SenseWord) -> Option<(SenseWord, TrainMind)>
         requires table { IsUsable t.now }
         requires mind { IsTrainMind t.now self.now }
@@ -215,10 +218,11 @@ impl TrainMind {
     }
 
     /// The mind after a post.
+    #[tactic(auto, using(crate::proofs::KeptLemmas::posted_kept))]
     fn posted(&self) -> TrainMind
         ensures mind { result ≡ posted self.now }
         ensures kept { (table : TrainTable) → IsTrainMind table self.now → self.now.waits ≡ false
-            → is_resting table self.now ≡ false → IsTrainMind table result }
+            → at_rest table self.now ≡ false → IsTrainMind table result }
     {
         let left = if is_near(self.job) {
             self.left.saturating_sub(1)
@@ -234,7 +238,7 @@ impl TrainMind {
 
     /// The mind after yes.
     fn heard(&self, row: &StepRow) -> TrainMind
-        requires { self.now.step ≤ 64 }
+        requires { self.now.step ≤ MAX_STEPS }
         ensures { result ≡ heard row.now self.now }
     {
         let step = if ends_step(self.job) {
@@ -251,8 +255,9 @@ impl TrainMind {
     }
 
     /// The mind after no.
+    #[tactic(auto, using(crate::proofs::KeptLemmas::denied_kept))]
     fn denied(&self, _row: &StepRow, next: Job) -> TrainMind
-        requires { self.now.refused ≤ 1000 }
+        requires { self.now.refused ≤ MAX_TRIES }
         ensures mind { result ≡ denied next self.now }
         ensures kept { (table : TrainTable) → IsTrainMind table self.now → self.now.waits ≡ true
             → after_no _row.now self.now.job ≡ Some next → IsTrainMind table result }

@@ -3,6 +3,7 @@ use Rattle.std.proofs.Common.{◌≡◌, ◌≢◌, ℕ, zero, suc, ◌+◌, ◌
 use Rattle.std.proofs.lemmas.Bool.{and_parts, and_from, eqb-true, eq-eqb, ne_eqb, eqb-false, ltb-true, lt-ltb, leb-true, le-leb, not-true, not_from_false, cond-true}
 use Rattle.std.proofs.lemmas.Option.{cond_some}
 use Rattle.rl_base.specs.declared.ids.TrainId.{TrainId}
+use Rattle.rl_base.specs.declared.limits.TheConstants.{MAX_TRAINS}
 use Rattle.rl_base.specs.declared.job.Verb.{Verb}
 use Rattle.rl_base.specs.declared.job.Verb.TheVariants.{Reserve, Release, Lock, Unlock}
 use Rattle.rl_base.specs.declared.kind.Side.{Side}
@@ -21,7 +22,7 @@ use Rattle.rl_words.specs.declared.sense.SenseWord.TheVariants.{Quiet, Head, Tai
 use Rattle.rl_words.specs.Fields.{field}
 use Rattle.rl_words.specs.Lock.{FitsPath, FitsLock, packed_path, packed_lock}
 use Rattle.rl_words.specs.Mail.{FitsArms, FitsLetter, IsRefusable, FitsMail, verb_code, packed_letter, packed_mail}
-use Rattle.rl_words.specs.Readings.{only_if, train_id, arm_id, holder_at, resv_at, fits_arm, fits_resv, read_resv, path_at, lock_tagged, lock_at, fits_path, fits_lock, read_lock, verb_at, letter_at, mail_tagged, mail_at, fits_arms, fits_letter, is_refusable, fits_mail, read_mail, run_tagged, run_at, fits_run, read_run, sense_tagged, sense_at, fits_sense, read_sense}
+use Rattle.rl_words.specs.Readings.{only_if, train_id, arm_id, arm_at, resv_at, fits_arm, fits_resv, read_resv, path_at, lock_tagged, lock_at, fits_path, fits_lock, read_lock, verb_at, letter_at, mail_tagged, mail_at, fits_arms, fits_letter, is_refusable, fits_mail, read_mail, run_tagged, run_at, fits_run, read_run, sense_tagged, sense_at, fits_sense, read_sense}
 use Rattle.rl_words.specs.Resv.{FitsArm, FitsResv, arm_code, packed_resv}
 use Rattle.rl_words.specs.Run.{FitsRun, packed_run}
 use Rattle.rl_words.specs.Sense.{FitsSense, packed_sense}
@@ -49,17 +50,17 @@ train-same n t e = ap train_id e
 -- the reservations
 fits_arm-true : (arm : Option TrainId) → fits_arm arm ≡ true → FitsArm arm
 fits_arm-true None h = tt
-fits_arm-true (Some t) h = ltb-true t.0 32 h
+fits_arm-true (Some t) h = ltb-true t.0 MAX_TRAINS h
 
 fits_arm_from : (arm : Option TrainId) → FitsArm arm → fits_arm arm ≡ true
 fits_arm_from None h = refl
-fits_arm_from (Some t) h = lt-ltb t.0 32 h
+fits_arm_from (Some t) h = lt-ltb t.0 MAX_TRAINS h
 
-holder_at-code : (n : ℕ) (arm : Option TrainId) → n ≡ arm_code arm → holder_at n ≡ arm
-holder_at-code zero None e = refl
-holder_at-code zero (Some t) e = absurd (omega arith)
-holder_at-code (suc n) None e = absurd (omega arith)
-holder_at-code (suc n) (Some t) e = let same : n ≡ t.0 = omega arith in ap Some (train-same n t same)
+arm_at-code : (n : ℕ) (arm : Option TrainId) → n ≡ arm_code arm → arm_at n ≡ arm
+arm_at-code zero None e = refl
+arm_at-code zero (Some t) e = absurd (omega arith)
+arm_at-code (suc n) None e = absurd (omega arith)
+arm_at-code (suc n) (Some t) e = let same : n ≡ t.0 = omega arith in ap Some (train-same n t same)
 
 resv_parts : (a b c d a' b' c' d' : Option TrainId) → a ≡ a' → b ≡ b' → c ≡ c' → d ≡ d'
     → (let made : ResvWord = record { arm0 = a; arm1 = b; arm2 = c; arm3 = d } in made) ≡ record { arm0 = a'; arm1 = b'; arm2 = c'; arm3 = d' }
@@ -73,10 +74,10 @@ resv_at-packed w fits =
     let c3 = arm_code-lt w.arm3 fits.arm3 in
     let n = packed_resv w in
     resv_parts _ _ _ _ w.arm0 w.arm1 w.arm2 w.arm3
-    (holder_at-code (field n 0 6) w.arm0 (omega arith))
-    (holder_at-code (field n 6 6) w.arm1 (omega arith))
-    (holder_at-code (field n 12 6) w.arm2 (omega arith))
-    (holder_at-code (field n 18 6) w.arm3 (omega arith))
+    (arm_at-code (field n 0 6) w.arm0 (omega arith))
+    (arm_at-code (field n 6 6) w.arm1 (omega arith))
+    (arm_at-code (field n 12 6) w.arm2 (omega arith))
+    (arm_at-code (field n 18 6) w.arm3 (omega arith))
 
 fits_resv-true : (w : ResvWord) → fits_resv w ≡ true → FitsResv w
 fits_resv-true w h =
@@ -255,13 +256,13 @@ run_at-packed (Across k) f = run_same 2 _ _ k (omega arith) (omega arith)
 
 fits_run-true : (v : RunWord) → fits_run v ≡ true → FitsRun v
 fits_run-true (Clear k) h = leb-true _ _ h
-fits_run-true (Go k) h = leb-true _ _ h
-fits_run-true (Across k) h = leb-true _ _ h
+fits_run-true (Go k) h = ltb-true _ _ h
+fits_run-true (Across k) h = ltb-true _ _ h
 
 fits_run_from : (v : RunWord) → FitsRun v → fits_run v ≡ true
 fits_run_from (Clear k) h = le-leb _ _ h
-fits_run_from (Go k) h = le-leb _ _ h
-fits_run_from (Across k) h = le-leb _ _ h
+fits_run_from (Go k) h = lt-ltb _ _ h
+fits_run_from (Across k) h = lt-ltb _ _ h
 
 pub read_run-packed : (v : RunWord) → FitsRun v → read_run (packed_run v) ≡ Some v
 unfolding read_run
@@ -282,13 +283,13 @@ sense_at-packed (Tail k) f = sense_same 2 _ _ k (omega arith) (omega arith)
 
 fits_sense-true : (v : SenseWord) → fits_sense v ≡ true → FitsSense v
 fits_sense-true (Quiet k) h = leb-true _ _ h
-fits_sense-true (Head k) h = leb-true _ _ h
-fits_sense-true (Tail k) h = leb-true _ _ h
+fits_sense-true (Head k) h = ltb-true _ _ h
+fits_sense-true (Tail k) h = ltb-true _ _ h
 
 fits_sense_from : (v : SenseWord) → FitsSense v → fits_sense v ≡ true
 fits_sense_from (Quiet k) h = le-leb _ _ h
-fits_sense_from (Head k) h = le-leb _ _ h
-fits_sense_from (Tail k) h = le-leb _ _ h
+fits_sense_from (Head k) h = lt-ltb _ _ h
+fits_sense_from (Tail k) h = lt-ltb _ _ h
 
 pub read_sense-packed : (v : SenseWord) → FitsSense v → read_sense (packed_sense v) ≡ Some v
 unfolding read_sense

@@ -1,10 +1,11 @@
 -- Any word: its payload is read, small, and owned.
-use Rattle.std.proofs.Common.{◌≡◌, ℕ, ◌^◌, ◌<◌, Option, Some, None, refl, ap, subst, arith}
+use Rattle.std.proofs.Common.{◌≡◌, ℕ, Option, Some, None, refl, ap, subst, arith}
 use Rattle.std.specs.Prelude.{option_map}
 use Rattle.rl_base.specs.declared.kind.Side.TheVariants.{Left, Right}
 use Rattle.rl_base.specs.declared.layout.Layout.{Layout}
 use Rattle.rl_base.specs.declared.layout.WordKind.{WordKind}
 use Rattle.rl_base.specs.declared.layout.WordKind.TheVariants as kinds
+use Rattle.rl_base.specs.Numbers.{IsU32}
 use Rattle.rl_base.specs.Layout.{HasWord, HasNode, word_number, node_number}
 use Rattle.rl_words.specs.declared.lock.LockWord.TheVariants.{Free, Asked, Moving, Moved, Locked}
 use Rattle.rl_words.specs.declared.mail.MailWord.TheVariants.{Empty, Ask, Taken, Yes, No}
@@ -53,7 +54,7 @@ read_word_only (kinds.Sense t) n word e =
     let both = read_sense_only n m.0 m.1 in
     subst (IsReading (kinds.Sense t) n) m.2 (record { kind_is = refl; fits = both.0; packed = both.1 })
 
-pub packed_word-lt : (word : Word) → FitsWord word → packed_word word < 2 ^ 32
+pub packed_word-lt : (word : Word) → FitsWord word → IsU32 (packed_word word)
 packed_word-lt (Resv b w) fits =
     let c0 = arm_code-lt w.arm0 fits.arm0 in
     let c1 = arm_code-lt w.arm1 fits.arm1 in

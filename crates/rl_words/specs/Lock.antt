@@ -1,14 +1,15 @@
 -- The lock word of a box: what fits it, its bits, and its packing.
 use Rattle.std.specs.Prelude.{◌≢◌, ℕ, ◌+◌, ◌*◌, ◌^◌, ◌<◌}
+use Rattle.rl_base.specs.declared.limits.TheConstants.{MAX_TRAINS}
 use Rattle.rl_base.specs.declared.kind.Side.{Side}
 use Rattle.rl_base.specs.declared.kind.Side.TheVariants.{Left, Right}
 use Rattle.rl_words.specs.declared.lock.LockWord.{LockWord}
 use Rattle.rl_words.specs.declared.lock.LockWord.TheVariants.{Free, Asked, Moving, Moved, Locked}
 use Rattle.rl_words.specs.declared.lock.Path.{Path}
 
--- one of at most 32 trains, from one of four arms to another
+-- a train of a network within its limits, from one of four arms to another
 pub record FitsPath (p : Path) : Type 0 where
-  pub train : p.train.0 < 32
+  pub train : p.train.0 < MAX_TRAINS
   pub x : p.x.0 < 4
   pub y : p.y.0 < 4
   pub apart : p.x.0 ≢ p.y.0

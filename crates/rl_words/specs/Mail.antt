@@ -2,6 +2,7 @@
 use Rattle.std.specs.Prelude.{◌≡◌, ◌≢◌, ℕ, ◌+◌, ◌*◌, ◌^◌, ◌<◌, ◌==◌, Bool, ◌&&◌}
 use Rattle.rl_base.specs.declared.ids.Arm.{Arm}
 use Rattle.rl_base.specs.declared.ids.BoxId.{BoxId}
+use Rattle.rl_base.specs.declared.limits.TheConstants.{MAX_BOXES, MAX_TRAINS}
 use Rattle.rl_base.specs.declared.job.Verb.{Verb}
 use Rattle.rl_base.specs.declared.job.Verb.TheVariants.{Reserve, Release, Lock, Unlock}
 use Rattle.rl_words.specs.declared.mail.Letter.{Letter}
@@ -15,9 +16,9 @@ FitsArms Release x y = y ≡ 0
 FitsArms Lock x y = x ≢ y
 FitsArms Unlock x y = x ≢ y
 
--- to one of at most 128 boxes, with the arms of its verb
+-- to a box of a network within its limits, with the arms of its verb
 pub record FitsLetter (l : Letter) : Type 0 where
-  pub to : l.to.0 < 128
+  pub to : l.to.0 < MAX_BOXES
   pub x : l.x.0 < 4
   pub y : l.y.0 < 4
   pub arms : FitsArms l.verb l.x.0 l.y.0
@@ -34,7 +35,7 @@ FitsMail Empty = Unit {0}
 FitsMail (Ask l) = FitsLetter l
 FitsMail (Taken l) = FitsLetter l
 FitsMail (Yes l) = FitsLetter l
-FitsMail (No l holder) = FitsLetter l × IsRefusable l.verb × (holder.0 < 32)
+FitsMail (No l holder) = FitsLetter l × IsRefusable l.verb × (holder.0 < MAX_TRAINS)
 
 -- the number of each verb
 abbrev pub verb_code : Verb → ℕ

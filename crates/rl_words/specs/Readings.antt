@@ -2,6 +2,7 @@
 use Rattle.std.specs.Prelude.{ℕ, zero, suc, ◌==◌, nat_lt, nat_le, Bool, true, false, not, ◌&&◌, Option, Some, None, if◌then◌else◌}
 use Rattle.rl_base.specs.declared.ids.Arm.{Arm}
 use Rattle.rl_base.specs.declared.ids.TrainId.{TrainId}
+use Rattle.rl_base.specs.declared.limits.TheConstants.{MAX_BOXES, MAX_TRAINS, MAX_STEPS}
 use Rattle.rl_base.specs.declared.job.Verb.{Verb}
 use Rattle.rl_base.specs.declared.job.Verb.TheVariants.{Reserve, Release, Lock, Unlock}
 use Rattle.rl_base.specs.declared.kind.Side.{Side}
@@ -35,22 +36,22 @@ abbrev pub only_if : {A : Type 0} → Bool → A → Option A
 only_if test v = if test then Some v else None
 
 -- who holds an arm, by its six bits
-abbrev pub holder_at : ℕ → Option TrainId
-holder_at zero = None
-holder_at (suc t) = Some (train_id t)
+abbrev pub arm_at : ℕ → Option TrainId
+arm_at zero = None
+arm_at (suc t) = Some (train_id t)
 
 abbrev pub resv_at : ℕ → ResvWord
 resv_at n =
     record {
-      arm0 = holder_at (field n 0 6);
-      arm1 = holder_at (field n 6 6);
-      arm2 = holder_at (field n 12 6);
-      arm3 = holder_at (field n 18 6);
+      arm0 = arm_at (field n 0 6);
+      arm1 = arm_at (field n 6 6);
+      arm2 = arm_at (field n 12 6);
+      arm3 = arm_at (field n 18 6);
     }
 
 abbrev pub fits_arm : Option TrainId → Bool
 fits_arm None = true
-fits_arm (Some t) = nat_lt t.0 32
+fits_arm (Some t) = nat_lt t.0 MAX_TRAINS
 
 abbrev pub fits_resv : ResvWord → Bool
 fits_resv w = fits_arm w.arm0 && (fits_arm w.arm1 && (fits_arm w.arm2 && fits_arm w.arm3))
@@ -77,7 +78,7 @@ abbrev pub lock_at : ℕ → LockWord
 lock_at n = lock_tagged (field n 0 3) (side_at (field n 3 1)) (path_at n)
 
 abbrev pub fits_path : Path → Bool
-fits_path p = nat_lt p.train.0 32 && (nat_lt p.x.0 4 && (nat_lt p.y.0 4 && not (p.x.0 == p.y.0)))
+fits_path p = nat_lt p.train.0 MAX_TRAINS && (nat_lt p.x.0 4 && (nat_lt p.y.0 4 && not (p.x.0 == p.y.0)))
 
 abbrev pub fits_lock : LockWord → Bool
 fits_lock (Free side) = true
@@ -122,7 +123,7 @@ fits_arms Lock x y = not (x == y)
 fits_arms Unlock x y = not (x == y)
 
 abbrev pub fits_letter : Letter → Bool
-fits_letter l = nat_lt l.to.0 128 && (nat_lt l.x.0 4 && (nat_lt l.y.0 4 && fits_arms l.verb l.x.0 l.y.0))
+fits_letter l = nat_lt l.to.0 MAX_BOXES && (nat_lt l.x.0 4 && (nat_lt l.y.0 4 && fits_arms l.verb l.x.0 l.y.0))
 
 abbrev pub is_refusable : Verb → Bool
 is_refusable Reserve = true
@@ -135,7 +136,7 @@ fits_mail Empty = true
 fits_mail (Ask l) = fits_letter l
 fits_mail (Taken l) = fits_letter l
 fits_mail (Yes l) = fits_letter l
-fits_mail (No l holder) = fits_letter l && (is_refusable l.verb && nat_lt holder.0 32)
+fits_mail (No l holder) = fits_letter l && (is_refusable l.verb && nat_lt holder.0 MAX_TRAINS)
 
 unfoldable pub read_mail : ℕ → Option MailWord
 read_mail n = only_if (fits_mail (mail_at n) && packed_mail (mail_at n) == n) (mail_at n)
@@ -150,9 +151,9 @@ abbrev pub run_at : ℕ → RunWord
 run_at n = run_tagged (field n 0 2) (field n 2 7)
 
 abbrev pub fits_run : RunWord → Bool
-fits_run (Clear k) = nat_le k 64
-fits_run (Go k) = nat_le k 63
-fits_run (Across k) = nat_le k 63
+fits_run (Clear k) = nat_le k MAX_STEPS
+fits_run (Go k) = nat_lt k MAX_STEPS
+fits_run (Across k) = nat_lt k MAX_STEPS
 
 unfoldable pub read_run : ℕ → Option RunWord
 read_run n = only_if (fits_run (run_at n) && packed_run (run_at n) == n) (run_at n)
@@ -167,9 +168,9 @@ abbrev pub sense_at : ℕ → SenseWord
 sense_at n = sense_tagged (field n 0 2) (field n 2 7)
 
 abbrev pub fits_sense : SenseWord → Bool
-fits_sense (Quiet k) = nat_le k 64
-fits_sense (Head k) = nat_le k 63
-fits_sense (Tail k) = nat_le k 63
+fits_sense (Quiet k) = nat_le k MAX_STEPS
+fits_sense (Head k) = nat_lt k MAX_STEPS
+fits_sense (Tail k) = nat_lt k MAX_STEPS
 
 unfoldable pub read_sense : ℕ → Option SenseWord
 read_sense n = only_if (fits_sense (sense_at n) && packed_sense (sense_at n) == n) (sense_at n)

@@ -1,12 +1,13 @@
 -- The reservation word of a box: what fits it, its bits, and its packing.
 use Rattle.std.specs.Prelude.{ℕ, ◌==◌, ◌+◌, ◌*◌, ◌^◌, ◌<◌, Option, Some, None, if◌then◌else◌}
 use Rattle.rl_base.specs.declared.ids.TrainId.{TrainId}
+use Rattle.rl_base.specs.declared.limits.TheConstants.{MAX_TRAINS}
 use Rattle.rl_words.specs.declared.resv.ResvWord.{ResvWord}
 
--- an arm that is held is held by one of at most 32 trains
+-- an arm that is held is held by one of the most trains that a network may have
 abbrev pub FitsArm : Option TrainId → Type 0
 FitsArm None = Unit {0}
-FitsArm (Some t) = t.0 < 32
+FitsArm (Some t) = t.0 < MAX_TRAINS
 
 pub record FitsResv (w : ResvWord) : Type 0 where
   pub arm0 : FitsArm w.arm0

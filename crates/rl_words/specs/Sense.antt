@@ -1,13 +1,14 @@
 -- The sense word of a train: what fits it, its bits, and its packing.
-use Rattle.std.specs.Prelude.{ℕ, ◌+◌, ◌*◌, ◌^◌, ◌≤◌}
+use Rattle.std.specs.Prelude.{ℕ, ◌+◌, ◌*◌, ◌^◌, ◌<◌, ◌≤◌}
+use Rattle.rl_base.specs.declared.limits.TheConstants.{MAX_STEPS}
 use Rattle.rl_words.specs.declared.sense.SenseWord.{SenseWord}
 use Rattle.rl_words.specs.declared.sense.SenseWord.TheVariants.{Quiet, Head, Tail}
 
--- the step is one of a route of at most 64 steps
+-- the step is one of a route within its limit, or the one behind its last while nothing is under way
 abbrev pub FitsSense : SenseWord → Type 0
-FitsSense (Quiet k) = k ≤ 64
-FitsSense (Head k) = k ≤ 63
-FitsSense (Tail k) = k ≤ 63
+FitsSense (Quiet k) = k ≤ MAX_STEPS
+FitsSense (Head k) = k < MAX_STEPS
+FitsSense (Tail k) = k < MAX_STEPS
 
 -- the tag in bits 0 and 1, the step in bits 2 to 8
 abbrev pub packed_sense : SenseWord → ℕ

@@ -18,6 +18,7 @@ ghost use Rattle.rl_words.specs.Stamps.{stamp_in, payload_in, stamped};
 ghost use Rattle.rl_words.specs.Readings.{read_resv, read_lock, read_mail, read_run, read_sense};
 ghost use Rattle.rl_words.specs.Word.{Word, kind_of, FitsWord, packed_word, read_word, word_owner, IsReading};
 ghost use Rattle.rl_base.specs.declared.layout.WordKind.{WordKind};
+ghost use Rattle.rl_base.specs.Numbers.{IsU32};
 ghost use Rattle.rl_base.specs.Layout.{HasWord, HasNode, word_number, node_number};
 
 use rl_base::numberings;
@@ -58,8 +59,8 @@ pub fn arms()
 
 /// A word is its stamp and its payload.
 pub fn stamps()
-    ensures stamp { (stamp payload : ℕ) → stamp < 2 ^ 32 → payload < 2 ^ 32 → stamp_in (stamped stamp payload) ≡ stamp }
-    ensures payload { (stamp payload : ℕ) → payload < 2 ^ 32 → payload_in (stamped stamp payload) ≡ payload }
+    ensures stamp { (stamp payload : ℕ) → IsU32 stamp → IsU32 payload → stamp_in (stamped stamp payload) ≡ stamp }
+    ensures payload { (stamp payload : ℕ) → IsU32 payload → payload_in (stamped stamp payload) ≡ payload }
     ensures word { (word : ℕ) → word < 2 ^ 64 → stamped (stamp_in word) (payload_in word) ≡ word }
 {}
 
@@ -92,11 +93,11 @@ pub fn readings()
     ensures sense_only { (n : ℕ) (v : SenseWord) → read_sense n ≡ Some v → FitsSense v × (packed_sense v ≡ n) }
 {}
 
-/// The same of any word, whose payload is below 2 to the 32, and which its owner owns.
+/// The same of any word, whose payload has 32 bits, and which its owner owns.
 pub fn words()
     ensures reads { (word : Word) → FitsWord word → read_word (kind_of word) (packed_word word) ≡ Some word }
     ensures only { (kind : WordKind) (n : ℕ) (word : Word) → read_word kind n ≡ Some word → IsReading kind n word }
-    ensures small { (word : Word) → FitsWord word → packed_word word < 2 ^ 32 }
+    ensures small { (word : Word) → FitsWord word → IsU32 (packed_word word) }
     ensures owned { (lay : Layout) (word : Word) → HasWord lay (kind_of word) → HasNode lay (word_owner word)
         → FitsWord word → Owns lay (word_number lay (kind_of word)) (packed_word word)
         (node_number lay (word_owner word)) }

@@ -4,7 +4,7 @@ ghost use Rattle.rl_words.specs.declared.lock.Path.{Path};
 ghost use Rattle.rl_words.specs.Lock.{FitsPath, FitsLock, side_code, packed_path, packed_lock};
 ghost use Rattle.rl_words.specs.Readings.{read_lock};
 
-use crate::field::{field, put};
+use crate::field::{field, with_bits};
 use rl_base::{Arm, Side, TrainId};
 
 /// The way of a train through a box, from arm `x` to arm `y`.
@@ -34,9 +34,9 @@ fn pack_path(tag: u32, path: &Path) -> u32
     requires path { FitsPath path.now }
     ensures { result ≡ tag + packed_path path.now }
 {
-    let word = put(tag, 4, path.train.0);
-    let word = put(word, 9, path.x.0);
-    put(word, 11, path.y.0)
+    let word = with_bits(tag, 4, path.train.0);
+    let word = with_bits(word, 9, path.x.0);
+    with_bits(word, 11, path.y.0)
 }
 
 /// The path above the tag of a payload, and `None` where there is none.
@@ -87,7 +87,7 @@ impl LockWord {
     {
         match *self {
             LockWord::Free(Side::Left) => 0,
-            LockWord::Free(Side::Right) => put(0, 3, 1),
+            LockWord::Free(Side::Right) => with_bits(0, 3, 1),
             LockWord::Asked(path) => pack_path(1, &path),
             LockWord::Moving(path) => pack_path(2, &path),
             LockWord::Moved(path) => pack_path(3, &path),

@@ -4,7 +4,8 @@ ghost use Rattle.rl_words.specs.declared.mail.MailWord.{MailWord};
 ghost use Rattle.rl_words.specs.Mail.{FitsArms, FitsLetter, IsRefusable, FitsMail, verb_code, same_letter, packed_letter, packed_mail};
 ghost use Rattle.rl_words.specs.Readings.{read_mail};
 
-use crate::field::{field, put};
+use crate::field::{field, with_bits};
+use rl_base::limits::MAX_TRAINS;
 use rl_base::{Arm, BoxId, TrainId, Verb};
 
 /// What a train asks of a box: the arm `x`, and for a lock or an unlock the passage from arm `x` to arm `y`. For
@@ -76,10 +77,10 @@ fn pack_letter(tag: u32, letter: &Letter) -> u32
     ensures packed { result ≡ tag + packed_letter letter.now }
     ensures small { result < 2 ^ 16 }
 {
-    let word = put(tag, 3, letter.to.0);
-    let word = put(word, 10, verb_code(letter.verb));
-    let word = put(word, 12, letter.x.0);
-    put(word, 14, letter.y.0)
+    let word = with_bits(tag, 3, letter.to.0);
+    let word = with_bits(word, 10, verb_code(letter.verb));
+    let word = with_bits(word, 12, letter.x.0);
+    with_bits(word, 14, letter.y.0)
 }
 
 /// The letter in bits 3 to 15 of a payload, and `None` where they are none.
@@ -113,7 +114,10 @@ fn mail_of(payload: u32) -> Option<MailWord>
         1 if above == 0 => Some(MailWord::Ask(letter)),
         2 if above == 0 => Some(MailWord::Taken(letter)),
         3 if above == 0 => Some(MailWord::Yes(letter)),
-        4 if above < 32 && is_refusable(letter.verb) => Some(MailWord::No(letter, TrainId(above))),
+        4 if above < MAX_TRAINS as u32 && is_refusable(letter.verb) => Some(MailWord::No(
+            letter,
+            TrainId(above),
+        )),
         _ => None,
     }
 }
@@ -142,7 +146,7 @@ impl MailWord {
             MailWord::Ask(letter) => pack_letter(1, &letter),
             MailWord::Taken(letter) => pack_letter(2, &letter),
             MailWord::Yes(letter) => pack_letter(3, &letter),
-            MailWord::No(letter, holder) => put(pack_letter(4, &letter), 16, holder.0),
+            MailWord::No(letter, holder) => with_bits(pack_letter(4, &letter), 16, holder.0),
         }
     }
 

@@ -9,6 +9,7 @@ use crate::mail::MailWord;
 use crate::resv::ResvWord;
 use crate::run::RunWord;
 use crate::sense::SenseWord;
+use rl_base::limits::{MAX_BOXES, MAX_TRAINS};
 use rl_base::{BoxId, Layout, NodeKind, NodeNo, TrainId, WordKind, WordNo};
 
 fn resv_owner(b: BoxId, payload: u32) -> Option<NodeKind>
@@ -86,8 +87,8 @@ fn has_node(lay: &Layout, node: NodeKind) -> bool
 /// The one node that may change the word at the payload. `None` for the still word, for a payload that is no
 /// packing, and for a letter to a box that the network hasn't got.
 pub fn owner(lay: &Layout, w: WordNo, payload: u32) -> Option<NodeNo>
-    requires boxes { lay.now.boxes ≤ 128 }
-    requires trains { lay.now.trains ≤ 32 }
+    requires boxes { lay.now.boxes ≤ MAX_BOXES }
+    requires trains { lay.now.trains ≤ MAX_TRAINS }
     requires within { w.0 < word_count lay.now }
     ensures some { IfSome result (λ n. Owns lay.now w.0 payload n.0) }
     ensures none { IfNone result ((n : ℕ) → ¬ Owns lay.now w.0 payload n) }

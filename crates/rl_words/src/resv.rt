@@ -5,7 +5,8 @@ ghost use Rattle.rl_words.specs.Fields.{field};
 ghost use Rattle.rl_words.specs.Resv.{FitsArm, arm_code, FitsResv, packed_resv, arm_in, with_arm};
 ghost use Rattle.rl_words.specs.Readings.{read_resv};
 
-use crate::field::{field, put};
+use crate::field::{field, with_bits};
+use rl_base::limits::MAX_TRAINS;
 use rl_base::{Arm, TrainId};
 
 /// The word of a box that says, for each of its arms, which train holds the segment there, if one does.
@@ -22,7 +23,7 @@ pub struct ResvWord {
 fn arm_code(arm: Option<TrainId>) -> u32
     requires { FitsArm arm }
     ensures code { result ≡ arm_code arm }
-    ensures small { result ≤ 32 }
+    ensures small { result ≤ MAX_TRAINS }
 {
     match arm {
         Some(t) => t.0 + 1,
@@ -34,11 +35,11 @@ fn arm_code(arm: Option<TrainId>) -> u32
 fn arm_at(payload: u32, at: u32) -> Option<Option<TrainId>>
     requires { at < 32 }
     ensures some { IfSome result (λ arm. FitsArm arm × (arm_code arm ≡ field payload at 6)) }
-    ensures none { IfNone result (32 < field payload at 6) }
+    ensures none { IfNone result (MAX_TRAINS < field payload at 6) }
 {
     match field(payload, at, 6) {
         0 => Some(None),
-        code if code <= 32 => Some(Some(TrainId(code - 1))),
+        code if code <= MAX_TRAINS as u32 => Some(Some(TrainId(code - 1))),
         _ => None,
     }
 }
@@ -106,9 +107,9 @@ impl ResvWord {
         ensures { result ≡ packed_resv self.now }
     {
         let word = arm_code(self.arm0);
-        let word = put(word, 6, arm_code(self.arm1));
-        let word = put(word, 12, arm_code(self.arm2));
-        put(word, 18, arm_code(self.arm3))
+        let word = with_bits(word, 6, arm_code(self.arm1));
+        let word = with_bits(word, 12, arm_code(self.arm2));
+        with_bits(word, 18, arm_code(self.arm3))
     }
 
     /// The word of a payload, and `None` where the payload is no packing.

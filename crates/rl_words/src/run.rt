@@ -3,7 +3,8 @@ ghost use Rattle.rl_words.specs.declared.run.RunWord.{RunWord};
 ghost use Rattle.rl_words.specs.Run.{FitsRun, packed_run};
 ghost use Rattle.rl_words.specs.Readings.{read_run};
 
-use crate::field::{field, put};
+use crate::field::{field, with_bits};
+use rl_base::limits::MAX_STEPS;
 
 /// The word by which a train and its track say where the train is: on segment `k` of its route, there and on its
 /// way into box `k`, or across that box.
@@ -22,9 +23,9 @@ fn run_of(payload: u32) -> Option<RunWord>
 {
     let k = payload >> 2;
     match field(payload, 0, 2) {
-        0 if k <= 64 => Some(RunWord::Clear(k)),
-        1 if k <= 63 => Some(RunWord::Go(k)),
-        2 if k <= 63 => Some(RunWord::Across(k)),
+        0 if k <= MAX_STEPS as u32 => Some(RunWord::Clear(k)),
+        1 if k < MAX_STEPS as u32 => Some(RunWord::Go(k)),
+        2 if k < MAX_STEPS as u32 => Some(RunWord::Across(k)),
         _ => None,
     }
 }
@@ -36,9 +37,9 @@ impl RunWord {
         ensures { result ≡ packed_run self.now }
     {
         match *self {
-            RunWord::Clear(k) => put(0, 2, k),
-            RunWord::Go(k) => put(1, 2, k),
-            RunWord::Across(k) => put(2, 2, k),
+            RunWord::Clear(k) => with_bits(0, 2, k),
+            RunWord::Go(k) => with_bits(1, 2, k),
+            RunWord::Across(k) => with_bits(2, 2, k),
         }
     }
 

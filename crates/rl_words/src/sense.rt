@@ -3,7 +3,8 @@ ghost use Rattle.rl_words.specs.declared.sense.SenseWord.{SenseWord};
 ghost use Rattle.rl_words.specs.Sense.{FitsSense, packed_sense};
 ghost use Rattle.rl_words.specs.Readings.{read_sense};
 
-use crate::field::{field, put};
+use crate::field::{field, with_bits};
+use rl_base::limits::MAX_STEPS;
 
 /// The word by which its track tells a train how far it has come with its step `k`: the track has seen nothing
 /// yet, has seen the head past the box, or has seen the tail past it.
@@ -22,9 +23,9 @@ fn sense_of(payload: u32) -> Option<SenseWord>
 {
     let k = payload >> 2;
     match field(payload, 0, 2) {
-        0 if k <= 64 => Some(SenseWord::Quiet(k)),
-        1 if k <= 63 => Some(SenseWord::Head(k)),
-        2 if k <= 63 => Some(SenseWord::Tail(k)),
+        0 if k <= MAX_STEPS as u32 => Some(SenseWord::Quiet(k)),
+        1 if k < MAX_STEPS as u32 => Some(SenseWord::Head(k)),
+        2 if k < MAX_STEPS as u32 => Some(SenseWord::Tail(k)),
         _ => None,
     }
 }
@@ -36,9 +37,9 @@ impl SenseWord {
         ensures { result ≡ packed_sense self.now }
     {
         match *self {
-            SenseWord::Quiet(k) => put(0, 2, k),
-            SenseWord::Head(k) => put(1, 2, k),
-            SenseWord::Tail(k) => put(2, 2, k),
+            SenseWord::Quiet(k) => with_bits(0, 2, k),
+            SenseWord::Head(k) => with_bits(1, 2, k),
+            SenseWord::Tail(k) => with_bits(2, 2, k),
         }
     }
 

@@ -29,7 +29,7 @@ make 33
 fn refuses_words(rt: HostRuntime) -> Result<(), Fail> {
     let text = "usage: relis COMMAND WORDS\n";
     for line in OTHER_WORDS.lines() {
-        assert_answer(&rt, rt.alloc(), STRAIGHT.as_bytes(), line, 1, text)?;
+        assert_answer(&rt, rt.alloc(), line, STRAIGHT.as_bytes(), b"", text)?;
     }
     Ok(())
 }

@@ -3,17 +3,20 @@ use super::*;
 use rl_text::read_number;
 use std::str;
 
+const ONE_STATION: &str = "\
+make 1 segments 4 boxes 3 trains 1
+rounds 3900 moves 480 refused 0 arrived 1 spent 0 underway 0
+";
+
 #[test]
 fn makes_one_station(rt: HostRuntime) -> Result<(), Fail> {
-    let text = "make 1 segments 4 boxes 3 trains 1\n\
-rounds 3900 moves 480 refused 0 arrived 1 spent 0 underway 0\n";
-    assert_answer(&rt, rt.alloc(), b"", "make 1", 0, text)
+    assert_answer(&rt, rt.alloc(), "make 1", b"", b"", ONE_STATION)
 }
 
 /// Of the largest ring the fates add up to its trains.
 #[test]
 fn makes_all_stations(rt: HostRuntime) -> Result<(), Fail> {
-    let (status, written) = answer(rt.alloc(), b"", "make 32")?;
+    let (status, written) = answer_with(rt.alloc(), &[], "make 32")?;
     assert_eq!(rt; status, Status::Done);
     let text = str::from_utf8(written.as_slice())?;
     let (first, second) = text.split_once('\n').ok_or("one line")?;

@@ -57,58 +57,72 @@ fn answer_of_all<R: Threads + Wait + Sync, G: Gate>(
     Ok((status, Vec::from_slice(alloc, out.bytes())?))
 }
 
-/// Asserts that a run of the network by this command line prints this text.
+/// Runs of which one text alone is right: of trains that rest at the start, of one whose moves are each a cause of the
+/// next; and one with no attempt, which is no command.
+const RUNS: &str = r#"run NET <- empty
+relis report 1
+tries 100
+end
+
+run NET <- straight | ["A", "J1", "B"] => ["A"]
+relis report 1
+tries 100
+train T1 arrived 0 0
+end
+
+run NET <- straight
+relis report 1
+tries 100
+reserve T1 B J1
+reserve T1 B E
+lock T1 J1 A B
+enter T1 J1 A B
+leave T1 A
+unlock T1 J1
+release T1 A J1
+release T1 A W
+train T1 arrived 1 0
+end
+
+run NET --round 1 --workers 3 <- straight
+relis report 1
+tries 100
+reserve T1 B J1
+reserve T1 B E
+lock T1 J1 A B
+enter T1 J1 A B
+leave T1 A
+unlock T1 J1
+release T1 A J1
+release T1 A W
+train T1 arrived 1 0
+end
+
+run NET --tries 0 <- straight
+usage: relis COMMAND WORDS"#;
+
+/// Asserts a row of the runs.
 fn assert_run<R: Abort + Threads + Wait + Sync>(
     rt: &R,
     alloc: Global,
-    net: &str,
-    line: &str,
-    text: &str,
+    row: &str,
 ) -> Result<(), Fail> {
+    let (head, text) = row.split_once('\n').ok_or("no answer")?;
+    let (line, short) = head.split_once(" <- ").ok_or("no network")?;
+    let net = file_text(alloc, short)?;
+    let text = format!(in alloc; "{text}\n")?;
     let files = [("NET", net.as_bytes())];
     let (status, written) = answer_of_all(rt, alloc, files.as_slice(), line, &OpenGate)?;
-    assert_eq!(rt; status, Status::Done, "{net}");
-    assert_eq!(rt; written.as_slice(), text.as_bytes(), "{net}");
+    assert_eq!(rt; written.as_slice(), text.as_bytes(), "at {head}");
+    assert_eq!(rt; status.number(), number_for(text.as_str()), "at {head}");
     Ok(())
 }
 
-/// Networks whose trains rest at the start: one with no train, and one whose train has nowhere to go.
 #[test]
-fn runs_what_rests(rt: HostRuntime) -> Result<(), Fail> {
-    let alloc = rt.alloc();
-    let still = changed(alloc, STRAIGHT, r#"["A", "J1", "B"]"#, r#"["A"]"#)?;
-    let empty = "relis report 1\ntries 100\nend\n";
-    assert_run(&rt, alloc, "format = 1\n", "run NET", empty)?;
-    let arrived = "relis report 1\ntries 100\ntrain T1 arrived 0 0\nend\n";
-    assert_run(&rt, alloc, still.as_str(), "run NET", arrived)
-}
-
-/// A network whose one train has one order of moves: each of them is a cause of the next.
-#[test]
-fn runs_to_rest(rt: HostRuntime) -> Result<(), Fail> {
-    let alloc = rt.alloc();
-    assert_run(
-        &rt,
-        alloc,
-        STRAIGHT,
-        "run NET --round 1 --workers 3",
-        ONE_STEP,
-    )?;
-    assert_run(&rt, alloc, STRAIGHT, "run NET", ONE_STEP)
-}
-
-/// A run with no attempt is no command.
-#[test]
-fn runs_no_run_without_tries(rt: HostRuntime) -> Result<(), Fail> {
-    let alloc = rt.alloc();
-    let files = [("NET", STRAIGHT.as_bytes())];
-    let line = "run NET --tries 0";
-    let (status, written) = answer_of_all(&rt, alloc, files.as_slice(), line, &OpenGate)?;
-    assert_eq!(rt; status.number(), 1);
-    assert_eq!(rt;
-        written.as_slice(),
-        b"usage: relis COMMAND WORDS\n".as_slice()
-    );
+fn runs(rt: HostRuntime) -> Result<(), Fail> {
+    for row in RUNS.split("\n\n") {
+        assert_run(&rt, rt.alloc(), row)?;
+    }
     Ok(())
 }
 

@@ -2,205 +2,186 @@
 use super::*;
 
 /// Refusals from 2 to 15, each with a text that is refused so.
-const REFUSALS: &str = r#"3 format <- empty | format = 1 => ~
-3 format <- straight | format = 1 => format = 2
-2 none <- straight | format = 1 => format = ~
-3 segments <- straight | ["A", "B"] => "A"
-3 box[1] <- straight | kind = "joint" => kind = "joint"~length = 3
-4 segments[0] <- straight | ["A", "B"] => ["A B", "B"]
-6 box[1].name <- straight | name = "J1" => name = "W"
-7 box[1].arms <- straight | kind = "joint" => kind = "point"
-8 box[1].arms[1] <- straight | arms = ["A", "B"] => arms = ["A", "C"]
-9 box[1].arms[1] <- straight | arms = ["A", "B"] => arms = ["A", "A"]
-10 segments[1] <- straight | [[box]]~name = "E"~kind = "buffer"~arms = ["B"]~ => ~
-10 segments[1] <- straight | [[train]] => [[box]]~name = "F"~kind = "buffer"~arms = ["B"]~[[train]]
-11 box[1].at <- straight | kind = "joint" => kind = "joint"~at = "left"
-11 box[1].at <- fork | at = "left" => ~
-12 train[0].route <- straight | ["A", "J1", "B"] => ["A", "J1"]
-13 train[0].route[1] <- straight | ["A", "J1", "B"] => ["A", "J2", "B"]
-14 train[0].route[1] <- fork | ["S", "P", "R"] => ["L", "P", "R"]
-15 train[1].route[0] <- straight | [[train]] => [[train]]~name = "T0"~route = ["A"]~[[train]]
+const REFUSALS: &str = r#"each command <- empty | format = 1 => ~
+refused 3 format
+
+each command <- straight | format = 1 => format = 2
+refused 3 format
+
+each command <- straight | format = 1 => format = ~
+refused 2 none
+
+each command <- straight | ["A", "B"] => "A"
+refused 3 segments
+
+each command <- straight | kind = "joint" => kind = "joint"~length = 3
+refused 3 box[1]
+
+each command <- straight | ["A", "B"] => ["A B", "B"]
+refused 4 segments[0]
+
+each command <- straight | name = "J1" => name = "W"
+refused 6 box[1].name
+
+each command <- straight | kind = "joint" => kind = "point"
+refused 7 box[1].arms
+
+each command <- straight | arms = ["A", "B"] => arms = ["A", "C"]
+refused 8 box[1].arms[1]
+
+each command <- straight | arms = ["A", "B"] => arms = ["A", "A"]
+refused 9 box[1].arms[1]
+
+each command <- straight | [[box]]~name = "E"~kind = "buffer"~arms = ["B"]~ => ~
+refused 10 segments[1]
+
+each command <- straight | [[train]] => [[box]]~name = "F"~kind = "buffer"~arms = ["B"]~[[train]]
+refused 10 segments[1]
+
+each command <- straight | kind = "joint" => kind = "joint"~at = "left"
+refused 11 box[1].at
+
+each command <- fork | at = "left" => ~
+refused 11 box[1].at
+
+each command <- straight | ["A", "J1", "B"] => ["A", "J1"]
+refused 12 train[0].route
+
+each command <- straight | ["A", "J1", "B"] => ["A", "J2", "B"]
+refused 13 train[0].route[1]
+
+each command <- fork | ["S", "P", "R"] => ["L", "P", "R"]
+refused 14 train[0].route[1]
+
+each command <- straight | [[train]] => [[train]]~name = "T0"~route = ["A"]~[[train]]
+refused 15 train[1].route[0]
 "#;
-
-/// The commands that read a network. A second file, which isn't there, isn't read where the network is refused.
-const COMMANDS: &str = "\
-check NET
-tables NET
-drive NET 5
-drive NET -s NONE
-audit NET NONE
-";
-
-/// Asserts that each command refuses the network so.
-fn assert_refused(rt: &impl Abort, alloc: Global, net: &[u8], refusal: &str) -> Result<(), Fail> {
-    let text = format!(in alloc; "refused {refusal}\n")?;
-    for line in COMMANDS.lines() {
-        assert_answer(rt, alloc, net, line, 3, text.as_str())?;
-    }
-    Ok(())
-}
-
-fn assert_refusal(rt: &impl Abort, alloc: Global, case: &str) -> Result<(), Fail> {
-    let (refusal, short) = case.split_once(" <- ").ok_or("no text")?;
-    let net = network(alloc, short)?;
-    assert_refused(rt, alloc, net.as_bytes(), refusal)
-}
 
 #[test]
 fn refuses_texts(rt: HostRuntime) -> Result<(), Fail> {
-    for case in REFUSALS.lines() {
-        assert_refusal(&rt, rt.alloc(), case)?;
-    }
-    Ok(())
+    assert_rows(&rt, rt.alloc(), REFUSALS)
 }
 
-/// How many segments, boxes, trains and nodes the networks have.
-const COUNTS: &str = r#"segments 0 boxes 0 trains 0 nodes 0 <- empty
-segments 0 boxes 0 trains 0 nodes 0 <- empty | format = 1 => format = 1~segments = []~box = []~train = []
-segments 2 boxes 3 trains 0 nodes 6 <- track
-segments 2 boxes 3 trains 1 nodes 8 <- straight
-segments 2 boxes 3 trains 1 nodes 8 <- straight | name = "E" => name = "A"
-segments 3 boxes 4 trains 1 nodes 10 <- fork
-segments 4 boxes 5 trains 2 nodes 14 <- crossing
-segments 9 boxes 9 trains 4 nodes 26 <- terminus
+/// How many segments, boxes, trains and nodes networks have,
+/// and texts at the limits and beyond them: 64 steps,
+/// 32 trains and 65,536 bytes. Then tables.
+const ACCEPTED: &str = r#"check NET <- empty
+accepted segments 0 boxes 0 trains 0 nodes 0
+
+check NET <- empty | format = 1 => format = 1~segments = []~box = []~train = []
+accepted segments 0 boxes 0 trains 0 nodes 0
+
+check NET <- track
+accepted segments 2 boxes 3 trains 0 nodes 6
+
+check NET <- straight
+accepted segments 2 boxes 3 trains 1 nodes 8
+
+check NET <- straight | name = "E" => name = "A"
+accepted segments 2 boxes 3 trains 1 nodes 8
+
+check NET <- fork
+accepted segments 3 boxes 4 trains 1 nodes 10
+
+check NET <- crossing
+accepted segments 4 boxes 5 trains 2 nodes 14
+
+check NET <- terminus
+accepted segments 9 boxes 9 trains 4 nodes 26
+
+check NET <- made steps 64
+accepted segments 2 boxes 3 trains 1 nodes 8
+
+check NET <- made steps 65
+refused 5 train[0].route
+
+check NET <- made crowd 32
+refused 15 train[1].route[0]
+
+check NET <- made crowd 33
+refused 5 train
+
+check NET <- made padded 65536
+accepted segments 2 boxes 3 trains 1 nodes 8
+
+check NET <- made padded 65537
+refused 1 none
+
+tables NET <- straight
+relis tables 1
+box 0 W buffer left
+arm 0 A T1
+box 1 J1 joint left
+arm 0 A T1
+arm 1 B *
+box 2 E buffer left
+arm 0 B *
+train 0 T1 1
+step 0 J1 0 1 E 0 W 0
+end
+
+tables NET <- = format = 1
+relis tables 1
+end
 "#;
-
-fn assert_counts(rt: &impl Abort, alloc: Global, case: &str) -> Result<(), Fail> {
-    let (counts, short) = case.split_once(" <- ").ok_or("no text")?;
-    let net = network(alloc, short)?;
-    let text = format!(in alloc; "accepted {counts}\n")?;
-    assert_answer(rt, alloc, net.as_bytes(), "check NET", 0, text.as_str())
-}
 
 #[test]
 fn accepts_texts(rt: HostRuntime) -> Result<(), Fail> {
-    for case in COUNTS.lines() {
-        assert_counts(&rt, rt.alloc(), case)?;
-    }
-    Ok(())
-}
-
-/// The track with one train, which goes to and fro so many steps.
-fn to_and_fro(alloc: Global, steps: u32) -> Result<String, Fail> {
-    let mut text = TRACK.to_string(alloc)?;
-    text.push_str("\n[[train]]\nname = \"T\"\nroute = [\"A\"")?;
-    for k in 0..steps {
-        text.push_str(if k % 2 == 0 {
-            ", \"J1\", \"B\""
-        } else {
-            ", \"J1\", \"A\""
-        })?;
-    }
-    text.push_str("]\n")?;
-    Ok(text)
-}
-
-/// The track with so many trains, all on one segment.
-fn crowded(alloc: Global, trains: u32) -> Result<String, Fail> {
-    let mut text = TRACK.to_string(alloc)?;
-    for t in 0..trains {
-        let train = format!(in alloc; "\n[[train]]\nname = \"T{t}\"\nroute = [\"A\"]\n")?;
-        text.push_str(train.as_str())?;
-    }
-    Ok(text)
-}
-
-/// Asserts that `check` refuses the text so.
-fn assert_unchecked(rt: &impl Abort, alloc: Global, net: &String, text: &str) -> Result<(), Fail> {
-    assert_answer(rt, alloc, net.as_bytes(), "check NET", 3, text)
-}
-
-/// At most 64 steps and 32 trains.
-#[test]
-fn counts_steps_and_trains(rt: HostRuntime) -> Result<(), Fail> {
-    let alloc = rt.alloc();
-    let most = to_and_fro(alloc, 64)?;
-    let counts = "accepted segments 2 boxes 3 trains 1 nodes 8\n";
-    assert_answer(&rt, alloc, most.as_bytes(), "check NET", 0, counts)?;
-    assert_unchecked(
-        &rt,
-        alloc,
-        &to_and_fro(alloc, 65)?,
-        "refused 5 train[0].route\n",
-    )?;
-    assert_unchecked(
-        &rt,
-        alloc,
-        &crowded(alloc, 32)?,
-        "refused 15 train[1].route[0]\n",
-    )?;
-    assert_unchecked(&rt, alloc, &crowded(alloc, 33)?, "refused 5 train\n")
-}
-
-#[test]
-fn prints_tables(rt: HostRuntime) -> Result<(), Fail> {
-    let alloc = rt.alloc();
-    let straight = STRAIGHT.as_bytes();
-    assert_answer(&rt, alloc, straight, "tables NET", 0, ONE_STEP_TABLES)?;
-    assert_answer(
-        &rt,
-        alloc,
-        b"format = 1",
-        "tables NET",
-        0,
-        "relis tables 1\nend\n",
-    )
+    assert_rows(&rt, rt.alloc(), ACCEPTED)
 }
 
 /// NULs, keys that stand twice, deep nesting, and other spellings of the same document.
 const HOSTILE: &str = "\
-refused 2 none <- \0
-refused 2 none <- format = 1 # \0
-refused 2 none <- format = 1~segments = [\"A\0\"]
-refused 4 segments[0] <- format = 1~segments = [\"A\\u0000\"]
-refused 2 none <- format = 1~\"format\" = 1
-refused 2 none <- format = 1~box.name = 1~[box]
-refused 2 none <- format = 9223372036854775808
-refused 3 segments[0] <- format = 1~segments = [[[[[[[[[[[[[[[[]]]]]]]]]]]]]]]]
-refused 3 format <- format.a.b.c.d.e.f = 1
-refused 3 box <- format = 1~box.name = \"W\"
-accepted segments 0 boxes 0 trains 0 nodes 0 <- \"\\u0066ormat\" = 0x1
-accepted segments 1 boxes 2 trains 0 nodes 4 <- format = 1~box = [{ name = \"W\", kind = \"buffer\", arms = [\"A\"] }, \
-{ arms = [\"A\"], kind = 'buffer', name = \"\"\"E\"\"\" }]~segments = [~  \"A\",~]
-";
+check NET <- = \0
+refused 2 none
 
-fn assert_hostile(rt: &impl Abort, alloc: Global, case: &str) -> Result<(), Fail> {
-    let (want, short) = case.split_once(" <- ").ok_or("no text")?;
-    let number = if want.starts_with("refused") { 3 } else { 0 };
-    let text = format!(in alloc; "{want}\n")?;
-    let net = text_of(alloc, short)?;
-    assert_answer(
-        rt,
-        alloc,
-        net.as_bytes(),
-        "check NET",
-        number,
-        text.as_str(),
-    )
-}
+check NET <- = format = 1 # \0
+refused 2 none
+
+check NET <- = format = 1~segments = [\"A\0\"]
+refused 2 none
+
+check NET <- = format = 1~segments = [\"A\\u0000\"]
+refused 4 segments[0]
+
+check NET <- = format = 1~\"format\" = 1
+refused 2 none
+
+check NET <- = format = 1~box.name = 1~[box]
+refused 2 none
+
+check NET <- = format = 9223372036854775808
+refused 2 none
+
+check NET <- = format = 1~segments = [[[[[[[[[[[[[[[[]]]]]]]]]]]]]]]]
+refused 3 segments[0]
+
+check NET <- = format.a.b.c.d.e.f = 1
+refused 3 format
+
+check NET <- = format = 1~box.name = \"W\"
+refused 3 box
+
+check NET <- = \"\\u0066ormat\" = 0x1
+accepted segments 0 boxes 0 trains 0 nodes 0
+
+check NET <- = format = 1~box = [{ name = \"W\", kind = \"buffer\", arms = [\"A\"] }, \
+{ arms = [\"A\"], kind = 'buffer', name = \"\"\"E\"\"\" }]~segments = [~  \"A\",~]
+accepted segments 1 boxes 2 trains 0 nodes 4
+";
 
 #[test]
 fn bears_hostile_texts(rt: HostRuntime) -> Result<(), Fail> {
-    for case in HOSTILE.lines() {
-        assert_hostile(&rt, rt.alloc(), case)?;
-    }
-    Ok(())
+    assert_rows(&rt, rt.alloc(), HOSTILE)
 }
 
 /// Bytes that are no text.
 #[test]
 fn refuses_what_is_no_text(rt: HostRuntime) -> Result<(), Fail> {
     let alloc = rt.alloc();
-    let text = "refused 2 none\n";
-    assert_answer(&rt, alloc, b"format = 1 # \xff", "check NET", 3, text)?;
-    assert_answer(
-        &rt,
-        alloc,
-        b"format = 1 # \xed\xa0\x80",
-        "check NET",
-        3,
-        text,
-    )
+    let (line, text) = ("check NET", "refused 2 none\n");
+    assert_answer(&rt, alloc, line, b"format = 1 # \xff", b"", text)?;
+    assert_answer(&rt, alloc, line, b"format = 1 # \xed\xa0\x80", b"", text)
 }
 
 /// Places, each with a text in which a value stands there, for `@`.
@@ -232,7 +213,7 @@ fn assert_other_type(
     text: &str,
 ) -> Result<(), Fail> {
     let net = changed(alloc, whole, "@", value)?;
-    assert_answer(rt, alloc, net.as_bytes(), "check NET", 3, text)
+    assert_answer(rt, alloc, "check NET", net.as_bytes(), b"", text)
 }
 
 /// Asserts that the text is refused at the place, with each of the values in it.
@@ -258,23 +239,4 @@ fn refuses_other_types(rt: HostRuntime) -> Result<(), Fail> {
         assert_other_types(&rt, rt.alloc(), short, place)?;
     }
     Ok(())
-}
-
-/// The line of one train, and signs of comments up to so many bytes.
-fn padded(alloc: Global, length: usize) -> Result<String, Fail> {
-    let mut text = STRAIGHT.to_string(alloc)?;
-    for _ in STRAIGHT.len()..length {
-        text.push_str("#")?;
-    }
-    Ok(text)
-}
-
-/// A text of 65,536 bytes is read, and one byte more is too long.
-#[test]
-fn reads_long_texts(rt: HostRuntime) -> Result<(), Fail> {
-    let alloc = rt.alloc();
-    let counts = "accepted segments 2 boxes 3 trains 1 nodes 8\n";
-    let longest = padded(alloc, 65_536)?;
-    assert_answer(&rt, alloc, longest.as_bytes(), "check NET", 0, counts)?;
-    assert_unchecked(&rt, alloc, &padded(alloc, 65_537)?, "refused 1 none\n")
 }

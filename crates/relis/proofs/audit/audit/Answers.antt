@@ -1,7 +1,8 @@
 use Rattle.std.proofs.Common.{[], ◌∷◌, inl, refl}
 use Rattle.rl_base.specs.declared.limits.TheConstants.{MAX_REPORT_BYTES}
-use Rattle.rl_base.specs.declared.place.Place.TheVariants.{ReportLine}
 use Rattle.rl_cli.specs.declared.order.Order.TheVariants.{Audit}
+use Rattle.rl_report.specs.Refusals.{refusal_number, refusal_place}
+use Rattle.rl_report.specs.declared.refusal.ReportRefusal.TheVariants.{Long}
 use Rattle.relis.specs.Answers.{EndsAs, UnlessMemory}
 use Rattle.relis.specs.Commands.{AuditsTo, long}
 use Rattle.relis.proofs.Ends.{both, passed_end, stopped, unread, WasFollowed}
@@ -41,7 +42,8 @@ returns-in_err-report g c =
     record {
       ends =
           passed_end (EndsAs order held x z) c.from_residual-in_err-report.result answer c.from_residual-in_err-report.ensures.1
-          (unread order first second held after x y z net MAX_REPORT_BYTES 20 (ReportLine 0) answer refl followed c.in_err-report.ensures.unread
+          (unread order first second held after x y z net MAX_REPORT_BYTES (refusal_number Long) (refusal_place Long) answer refl followed
+          (rw (c.long_report.ensures.number, c.long_report.ensures.place) at c.in_err-report.ensures.unread)
           (λ bytes long_one. long (inl long_one)));
       fetches = fetches_both first second held after last x y z c.read_network.ensures.fetches c.read_file.ensures.fetches;
     }

@@ -1,13 +1,6 @@
-use Rattle.std.proofs.Common.{subst}
-use Rattle.rl_report.specs.Answers.{IsCause}
-use Rattle.rl_report.specs.declared.refusal.ReportRefusal.{ReportRefusal}
-use Rattle.relis.specs.Commands.{faulty, long}
+use Rattle.relis.proofs.Faults.{by_report}
 use Rattle.relis.proofs.audit.refusal_of.Goals as goal
 
-pub returns-in-Line : goal.returns-in-Line
-returns-in-Line c = λ net report cause.
-    let known = subst (λ (r : ReportRefusal). IsCause net report r) c.in-Line.is cause in
-    faulty c.in-Line.n known.0 known.1
-
-pub returns-in-Long : goal.returns-in-Long
-returns-in-Long c = λ net report cause. long (subst (λ (r : ReportRefusal). IsCause net report r) c.in-Long.is cause)
+pub returns-in_default : goal.returns-in_default
+returns-in_default c = λ net report cause.
+    rw (c.refused.ensures, c.number.ensures, c.place.ensures) (by_report net report c.args.refusal c.in_default.not-NoMemory cause)

@@ -1,7 +1,8 @@
 use Rattle.std.proofs.Common.{[], ◌∷◌, refl}
 use Rattle.rl_base.specs.declared.limits.TheConstants.{MAX_SCHEDULE_BYTES}
-use Rattle.rl_base.specs.declared.place.Place.TheVariants.{ScheduleLine}
 use Rattle.rl_cli.specs.declared.order.Order.TheVariants.{Drive}
+use Rattle.rl_schedule.specs.Refusals.{refusal_number, refusal_place}
+use Rattle.rl_schedule.specs.declared.refusal.ScheduleRefusal.TheVariants.{TooMany}
 use Rattle.relis.specs.Answers.{EndsAs, UnlessMemory}
 use Rattle.relis.specs.Commands.{DrivesScheduleTo}
 use Rattle.relis.proofs.Ends.{both, passed_end, stopped, unread, WasFollowed}
@@ -42,7 +43,8 @@ returns-in_err-schedule g c =
     record {
       ends =
           passed_end (EndsAs order held x z) c.from_residual-in_err-schedule.result answer c.from_residual-in_err-schedule.ensures.1
-          (unread order first second held after x y z net MAX_SCHEDULE_BYTES 18 (ScheduleLine 0) answer refl followed c.in_err-schedule.ensures.unread
+          (unread order first second held after x y z net MAX_SCHEDULE_BYTES (refusal_number (TooMany 0)) (refusal_place (TooMany 0)) answer refl followed
+          (rw (c.long_schedule.ensures.number, c.long_schedule.ensures.place) at c.in_err-schedule.ensures.unread)
           (λ bytes long_one. too_many net bytes c.args.tries long_one));
       fetches = fetches_both first second held after last x y z c.read_network.ensures.fetches c.read_file.ensures.fetches;
     }

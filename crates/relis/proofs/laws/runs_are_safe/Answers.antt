@@ -1,4 +1,5 @@
 use Rattle.std.proofs.Common.{◌≤◌, ℕ, length, sym, subst}
+use Rattle.rl_base.specs.Tries.{AreFewTries}
 use Rattle.rl_base.specs.declared.limits.TheConstants.{MAX_MOVES}
 use Rattle.rl_model.specs.declared.network.NetworkPlan.{NetworkPlan}
 use Rattle.rl_model.specs.declared.report.Report.{Report}
@@ -13,7 +14,7 @@ use Rattle.relis.proofs.laws.runs_are_safe.Goals as goal
 
 pub returns : goal.returns
 returns c =
-    let few : (net : NetworkPlan) (tries : ℕ) (report : Report) → IsNetwork net → tries ≤ 1000 → IsRunReport net tries report
+    let few : (net : NetworkPlan) (tries : ℕ) (report : Report) → IsNetwork net → AreFewTries tries → IsRunReport net tries report
     → length report.moves ≤ MAX_MOVES =
     λ net tries report is less ran.
     let tables = ran.tables in

@@ -50,4 +50,4 @@ returns c =
     let run = c.in_ok-judge_moves.ensures.ok in
     let moves = run.read c.args.text.now start in
     let short = laws.short c.args.net.now c.args.text.now run.moves c.judge_moves.new.lines moves run.few (omega arith) c.in_ok-judge_moves.ensures.none in
-    (short, c.in-Err.ensures.err c.args.net.now c.args.text.now c.trains-trains.ensures.network c.new-lines.ensures.left)
+    (short, c.in-Err.ensures.err c.args.net.now c.args.text.now c.accepted.ensures c.new-lines.ensures.left)

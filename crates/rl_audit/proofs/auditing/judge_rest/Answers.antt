@@ -20,7 +20,7 @@ returns-in-Ok-clause-ok c = λ text moves read judged.
       report = report;
       spelled = c.in-Ok.ensures.ok text report (run.read text start read refl) run.counted;
       verdict_is = verdict_from c.args.net.now report c.judge_trains.new.judge c.verdict.result
-          (c.safe_runs.ensures.runs c.args.net.now moves c.trains-trains.ensures.network) run.counted
+          (c.safe_runs.ensures.runs c.args.net.now moves c.accepted.ensures) run.counted
           (run.judged start refl refl (no_trains_yet c.args.net.now c.args.tries moves c.args.judge.now judged)) c.verdict.ensures;
     }
 

@@ -1,4 +1,5 @@
 use Rattle.std.proofs.Common.{rules, ◌≡◌, ◌∙◌, refl, ap, sym, map, codes, List, [], ◌∷◌, ℕ, Bor, Option, option_map, unwrap_or}
+use Rattle.rl_base.specs.declared.limits.TheConstants.{DEFAULT_TRIES}
 use Rattle.rl_cli.specs.Words.{number}
 use Rattle.rl_cli.proofs.FormReads.{rounds_numbers, rounds_reads, small_as, value_read, fails_for_memory, fault_at, passed_on}
 use Rattle.rl_cli.specs.declared.flag.Flag.TheVariants.{Schedule, Tries}
@@ -44,6 +45,6 @@ returns c =
     let small = small_as _ _ (read (codes "N")) numbers.0 in
     let net = sym (read (codes "NET")) ∙ c.in_ok-net.ensures in
     let rounds = sym (ap (option_map number) (read (codes "N"))) ∙ c.in_ok-rounds.ensures small in
-    let tries = c.unwrap_or-tries.ensures ∙ ap (λ (o : Option ℕ). unwrap_or o 100)
+    let tries = c.unwrap_or-tries.ensures ∙ ap (λ (o : Option ℕ). unwrap_or o DEFAULT_TRIES)
     (c.number_at.ensures (small_as _ _ (read (codes "--tries")) numbers.1) ∙ ap (option_map number) (read (codes "--tries"))) in
     cc

@@ -1,4 +1,5 @@
 use Rattle.std.proofs.Common.{rules, ◌≡◌, ◌∙◌, refl, ap, sym, map, codes, List, [], ◌∷◌, ℕ, Bor, Option, option_map, unwrap_or}
+use Rattle.rl_base.specs.declared.limits.TheConstants.{DEFAULT_TRIES, DEFAULT_ROUND}
 use Rattle.rl_cli.specs.Words.{number}
 use Rattle.rl_cli.proofs.FormReads.{run_numbers, run_reads, small_as, value_read, fails_for_memory, fault_at, passed_on}
 use Rattle.rl_cli.specs.declared.flag.Flag.TheVariants.{Tries, Workers, Round}
@@ -30,9 +31,9 @@ returns c =
     let read = value_read _ _ _ _ _ _ _ c.in_ok-matches.matches ids flags words reads refl c.in_ok-matches.ensures.ok in
     let numbers = run_numbers c.args.words.now c.requires in
     let net = sym (read (codes "NET")) ∙ c.in_ok-net.ensures in
-    let tries = c.unwrap_or-tries.ensures ∙ ap (λ (o : Option ℕ). unwrap_or o 100)
+    let tries = c.unwrap_or-tries.ensures ∙ ap (λ (o : Option ℕ). unwrap_or o DEFAULT_TRIES)
     (c.number_at.ensures (small_as _ _ (read (codes "--tries")) numbers.0) ∙ ap (option_map number) (read (codes "--tries"))) in
     let workers = c.number_at-workers.ensures (small_as _ _ (read (codes "--workers")) numbers.1) ∙ ap (option_map number) (read (codes "--workers")) in
-    let round = c.unwrap_or-round.ensures ∙ ap (λ (o : Option ℕ). unwrap_or o 1024)
+    let round = c.unwrap_or-round.ensures ∙ ap (λ (o : Option ℕ). unwrap_or o DEFAULT_ROUND)
     (c.number_at-2.ensures (small_as _ _ (read (codes "--round")) numbers.2) ∙ ap (option_map number) (read (codes "--round"))) in
     cc

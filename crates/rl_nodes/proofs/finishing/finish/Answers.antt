@@ -1,8 +1,8 @@
 use Rattle.std.proofs.Common.{List, sym, subst}
 use Rattle.rl_record.specs.Records.{Record, AreHistories, IsMergeOf}
-use Rattle.rl_runs.specs.declared.mind.Mind.{Mind}
-use Rattle.rl_rule.specs.Seats.{line_of, tries_of}
-use Rattle.rl_nodes.specs.Finished.{records_of, state_of, AreMinds, most_attempts, AreFew}
+use Rattle.rl_steps.specs.declared.mind.Mind.{Mind}
+use Rattle.rl_rule.specs.Seats.{rails_line, rails_tries}
+use Rattle.rl_nodes.specs.Finished.{records_of, end_state, AreMinds, most_attempts, AreFew}
 use Rattle.rl_nodes.proofs.LastRun.{last_run, records_are}
 use Rattle.rl_nodes.proofs.Outcomes.{Laws, outcome}
 use Rattle.rl_nodes.proofs.finishing.finish.Goals as goal
@@ -16,7 +16,7 @@ merge-requires c =
     let words = c.close-words.result in
     let (log, last) = last_run rails c.take_all_in.new.rails parts words c.requires.none_taken told.rails told.taken close.line close.tries close.run in
     subst AreHistories (sym told.records)
-    (c.merged_records.ensures.histories (line_of rails) (tries_of rails) log (records_of parts) last.replay.run
+    (c.merged_records.ensures.histories (rails_line rails) (rails_tries rails) log (records_of parts) last.replay.run
     (records_are rails parts words log c.requires last))
 
 pub returns : goal.returns
@@ -41,6 +41,6 @@ returns c =
       merge = c.in_ok-events.ensures;
       run = out.run;
       words = out.words_are;
-      last_minds = subst (λ (l : List Mind). AreMinds (state_of rails events).minds l) (sym told.minds) out.minds_are;
+      last_minds = subst (λ (l : List Mind). AreMinds (end_state rails events).minds l) (sym told.minds) out.minds_are;
       few = subst (λ (l : List Record). AreFew (most_attempts rails) l events) (sym told.records) out.few;
     }

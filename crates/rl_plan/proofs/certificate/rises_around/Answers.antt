@@ -4,11 +4,11 @@ use Rattle.rl_plan.proofs.certificate.rises_around.Goals as goal
 
 pub rises_at-requires : goal.rises_at-requires
 rises_at-requires c =
-    record { there = ((ends_there c.args.net.now c.args.s.0 c.ends.result c.boxes-boxes.ensures.network c.ends.ensures).0, c.requires.there) }
+    record { there = ((ends_there c.args.net.now c.args.s.0 c.ends.result c.accepted.ensures c.ends.ensures).0, c.requires.there) }
 
 pub rises_at-requires-then-rises_at : goal.rises_at-requires-then-rises_at
 rises_at-requires-then-rises_at c =
-    record { there = ((ends_there c.args.net.now c.args.s.0 c.ends.result c.boxes-boxes.ensures.network c.ends.ensures).1, c.requires.there) }
+    record { there = ((ends_there c.args.net.now c.args.s.0 c.ends.result c.accepted.ensures c.ends.ensures).1, c.requires.there) }
 
 pub returns-then-rises_at : goal.returns-then-rises_at
 returns-then-rises_at c =

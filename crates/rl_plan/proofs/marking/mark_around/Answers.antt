@@ -6,11 +6,11 @@ use Rattle.rl_plan.proofs.marking.mark_around.Goals as goal
 
 pub mark_through-first-requires-clause-there : goal.mark_through-first-requires-clause-there
 mark_through-first-requires-clause-there c =
-    ((ends_there c.args.net.now c.args.s.0 c.ends.result c.boxes-boxes.ensures.network c.ends.ensures).0, c.requires.there)
+    ((ends_there c.args.net.now c.args.s.0 c.ends.result c.accepted.ensures c.ends.ensures).0, c.requires.there)
 
 pub mark_through-second-requires-clause-there : goal.mark_through-second-requires-clause-there
 mark_through-second-requires-clause-there c =
-    ((ends_there c.args.net.now c.args.s.0 c.ends.result c.boxes-boxes.ensures.network c.ends.ensures).1, c.requires.there)
+    ((ends_there c.args.net.now c.args.s.0 c.ends.result c.accepted.ensures c.ends.ensures).1, c.requires.there)
 
 pub returns : goal.returns
 returns c = record {

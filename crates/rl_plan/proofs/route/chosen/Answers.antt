@@ -5,12 +5,12 @@ use Rattle.rl_plan.proofs.route.chosen.Goals as goal
 
 pub lowest-requires : goal.lowest-requires
 lowest-requires c =
-    record { there = ((ends_there c.args.net.now c.args.s.0 c.ends.result c.boxes-boxes.ensures.network c.ends.ensures).0, c.requires.there) }
+    record { there = ((ends_there c.args.net.now c.args.s.0 c.ends.result c.accepted.ensures c.ends.ensures).0, c.requires.there) }
 
 pub lowest-requires-2 : goal.lowest-requires-2
 lowest-requires-2 c =
-    record { there = ((ends_there c.args.net.now c.args.s.0 c.ends.result c.boxes-boxes.ensures.network c.ends.ensures).1, c.requires.there) }
+    record { there = ((ends_there c.args.net.now c.args.s.0 c.ends.result c.accepted.ensures c.ends.ensures).1, c.requires.there) }
 
 pub returns-in-Some-clause-some : goal.returns-in-Some-clause-some
 returns-in-Some-clause-some c =
-    chosen_low c.args.net.now c.args.levels.now c.args.s.0 c.args.n c.ends.result c.in-Some.r c.boxes-boxes.ensures.network c.ends.ensures c.in-Some.ensures
+    chosen_low c.args.net.now c.args.levels.now c.args.s.0 c.args.n c.ends.result c.in-Some.r c.accepted.ensures c.ends.ensures c.in-Some.ensures

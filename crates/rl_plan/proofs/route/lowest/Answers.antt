@@ -13,5 +13,5 @@ loop-y-preserved c =
 
 pub returns : goal.returns
 returns c =
-    lowest_all c.args.net.now c.args.levels.now c.args.b.0 c.args.s.0 c.args.n c.loop-y.y c.loop-y.best c.boxes-boxes.ensures.network c.loop-y-test.false
+    lowest_all c.args.net.now c.args.levels.now c.args.b.0 c.args.s.0 c.args.n c.loop-y.y c.loop-y.best c.accepted.ensures c.loop-y-test.false
     c.loop-y.invariant

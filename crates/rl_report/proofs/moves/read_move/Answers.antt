@@ -23,4 +23,4 @@ pub returns-clause-some : goal.returns-clause-some
 returns-clause-some c = some c.args.net.now c.args.line.now c.read_words.result c.read_words.ensures.some
 
 pub returns-clause-none : goal.returns-clause-none
-returns-clause-none c = none c.args.net.now c.args.line.now c.read_words.result c.trains-trains.ensures.network c.read_words.ensures.none
+returns-clause-none c = none c.args.net.now c.args.line.now c.read_words.result c.accepted.ensures c.read_words.ensures.none

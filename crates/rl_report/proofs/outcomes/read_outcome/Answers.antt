@@ -26,5 +26,5 @@ pub returns-clause-some : goal.returns-clause-some
 returns-clause-some c = some c.args.net.now c.args.line.now c.new.result c.read_outcome_words.result c.new.ensures c.read_outcome_words.ensures.some
 
 pub returns-clause-none : goal.returns-clause-none
-returns-clause-none c = none c.args.net.now c.args.line.now c.new.result c.read_outcome_words.result c.trains-trains.ensures.network c.new.ensures
+returns-clause-none c = none c.args.net.now c.args.line.now c.new.result c.read_outcome_words.result c.accepted.ensures c.new.ensures
     c.read_outcome_words.ensures.none

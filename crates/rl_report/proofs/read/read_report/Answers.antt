@@ -19,4 +19,4 @@ reads_back net text report (Err NoMemory) network reads is few = tt
 
 pub returns-clause-complete : goal.returns-clause-complete
 returns-clause-complete c = λ report is few.
-    reads_back c.args.net.now c.args.text.now report c.read_text.result c.trains-trains.ensures.network c.read_text.ensures is few
+    reads_back c.args.net.now c.args.text.now report c.read_text.result c.accepted.ensures c.read_text.ensures is few

@@ -42,4 +42,4 @@ returns-in-Err c =
     let moves = c.in_ok-moves.ensures.ok c.args.text.now start in
     let short = short_from_moves c.args.net.now c.args.text.now c.in_ok-moves.moves c.read_moves.new.lines moves c.in_ok-moves.ensures.few
     (omega arith) c.in_ok-moves.ensures.none in
-    (short, c.in-Err.ensures.err c.args.net.now c.args.text.now c.trains-trains.ensures.network c.new-lines.ensures.left)
+    (short, c.in-Err.ensures.err c.args.net.now c.args.text.now c.accepted.ensures c.new-lines.ensures.left)

@@ -1,8 +1,8 @@
 use Rattle.std.proofs.Common.{◌≡◌, ℕ, ◌∙◌, Option, Some, sym, ap, subst}
 use Rattle.rl_base.specs.declared.ids.NodeNo.{NodeNo}
 use Rattle.rl_words.specs.Stamps.{payload_in}
-use Rattle.rl_runs.specs.declared.mind.Mind.{Mind}
-use Rattle.rl_runs.specs.Step.{node_step}
+use Rattle.rl_steps.specs.declared.mind.Mind.{Mind}
+use Rattle.rl_steps.specs.Step.{node_step}
 use Rattle.rl_rule.specs.declared.views.Walk.{Walk}
 use Rattle.rl_rule.specs.Seats.{walk_of}
 use Rattle.rl_rows.proofs.rails.turn_on.Goals as goal

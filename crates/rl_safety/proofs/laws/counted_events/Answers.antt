@@ -1,5 +1,5 @@
 use Rattle.std.proofs.Common.{length}
-use Rattle.rl_runs.specs.Run.{state}
+use Rattle.rl_steps.specs.Run.{state}
 use Rattle.rl_protocol.proofs.Totals.{posted_most}
 use Rattle.rl_safety.specs.Reading.{read}
 use Rattle.rl_protocol.specs.TableLine.{line_of}

@@ -13,7 +13,6 @@ returns c = λ tables tries events line few run.
         machines = c.machine_steps.ensures;
       };
       words = record { reads = c.words.ensures.reads; only = c.words.ensures.only };
-      arms = record { same = c.arms.ensures.same; others = c.arms.ensures.others };
     }
     record {
       resv = c.readings.ensures.resv;

@@ -1,5 +1,6 @@
-use Rattle.std.proofs.Common.{◌≡◌, ◌≤◌, ℕ, false, Some, ⊎_elim}
+use Rattle.std.proofs.Common.{◌≡◌, ℕ, false, Some, ⊎_elim}
 use Rattle.std.proofs.lemmas.Bool.{cases_Bool}
+use Rattle.rl_base.specs.Tries.{AreFewTries}
 use Rattle.rl_base.specs.declared.ids.BoxId.{BoxId}
 use Rattle.rl_base.specs.declared.layout.NodeKind.TheVariants as nodes
 use Rattle.rl_record.specs.declared.event.Event.{Event}
@@ -7,12 +8,12 @@ use Rattle.rl_record.specs.declared.event.Turn.TheVariants.{Moved}
 use Rattle.rl_tables.specs.declared.table.Tables.{Tables}
 use Rattle.rl_tables.specs.Kept.{IsLine}
 use Rattle.rl_tables.specs.Starts.{layout_of}
-use Rattle.rl_runs.specs.Numbers.{node_at}
-use Rattle.rl_runs.specs.Run.{IsRun, state}
-use Rattle.rl_runs.specs.Step.{is_ready}
-use Rattle.rl_runs.specs.Turn.{Drive, answer_of}
-use Rattle.rl_runs.proofs.Keeping.{StepsKeep}
-use Rattle.rl_runs.proofs.Sounding.{runs_minded}
+use Rattle.rl_steps.specs.Numbers.{node_at}
+use Rattle.rl_steps.specs.Run.{IsRun, state}
+use Rattle.rl_steps.specs.Step.{is_ready}
+use Rattle.rl_steps.specs.Turn.{Drive, answer_of}
+use Rattle.rl_steps.proofs.Keeping.{StepsKeep}
+use Rattle.rl_steps.proofs.Sounding.{runs_minded}
 use Rattle.rl_safety.proofs.AtWork.{WorkLaws, busy_moves}
 use Rattle.rl_safety.proofs.Readable.{runs_size}
 use Rattle.rl_safety.proofs.work.boxes_at_work.Goals as goal
@@ -31,7 +32,7 @@ returns c =
       lines = c.box_lines.ensures.payloads;
       at_work = c.sentences_as_steps.ensures.at_work;
     } in
-    let moves : (tables : Tables) (tries : ℕ) (d : Drive) (n : ℕ) (b : BoxId) → IsLine tables → tries ≤ 1000 → IsRun tables tries d.events
+    let moves : (tables : Tables) (tries : ℕ) (d : Drive) (n : ℕ) (b : BoxId) → IsLine tables → AreFewTries tries → IsRun tables tries d.events
     → node_at (layout_of tables) n ≡ Some (nodes.Box b) → is_ready ((state tables tries d.events).minds n) ≡ false
     → (e : Event) × (answer_of tables tries d n ≡ Moved e) = λ tables tries d n b line few run at busy.
     busy_moves laws tables tries (state tables tries d.events) line (c.agreement.ensures tables tries d.events line few run)

@@ -1,6 +1,6 @@
-use Rattle.rl_runs.specs.Run.{state}
-use Rattle.rl_runs.proofs.Keeping.{StepsKeep}
-use Rattle.rl_runs.proofs.Sounding.{runs_minded}
+use Rattle.rl_steps.specs.Run.{state}
+use Rattle.rl_steps.proofs.Keeping.{StepsKeep}
+use Rattle.rl_steps.proofs.Sounding.{runs_minded}
 use Rattle.rl_safety.proofs.Rests.{rest_exactly}
 use Rattle.rl_safety.proofs.work.turns_at_rest.Goals as goal
 

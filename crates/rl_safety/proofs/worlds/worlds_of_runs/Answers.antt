@@ -3,7 +3,7 @@ use Rattle.rl_model.specs.Safety.{IsKept}
 use Rattle.rl_model.specs.World.{start}
 use Rattle.rl_protocol.specs.Counts.{HasTrains}
 use Rattle.rl_protocol.specs.TableLine.{line_of}
-use Rattle.rl_runs.specs.Run.{state}
+use Rattle.rl_steps.specs.Run.{state}
 use Rattle.rl_safety.specs.Moves.{moves_of}
 use Rattle.rl_safety.specs.Reading.{read}
 use Rattle.rl_safety.proofs.KeptWorlds.{kept_after_moves}
@@ -16,7 +16,7 @@ returns c =
       named = λ net tables tries events network are few run.
           let line = c.tables_of_networks.ensures.line net tables network are in
           let railway = c.lines_of_tables.ensures.railway net tables network line are in
-          names_what_is_there net (line_of tables) tries (read tables tries (state tables tries events)) network railway.line_of
+          names_what_is_there net (line_of tables) tries (read tables tries (state tables tries events)) network railway.line_is
           (subst (HasTrains (line_of tables)) are.trains.length_is (c.lines_of_tables.ensures.trains tables))
           (c.agreement.ensures tables tries events line few run);
       kept = λ net tables tries events network are few run.

@@ -3,7 +3,7 @@ use Rattle.rl_base.specs.Layout.{node_count}
 use Rattle.rl_base.specs.declared.limits.TheConstants.{MAX_MOVES}
 use Rattle.rl_model.specs.declared.report.Report.{Report}
 use Rattle.rl_model.specs.Reports.{IsReportOf, IsRightReport}
-use Rattle.rl_runs.specs.Turn.{driven}
+use Rattle.rl_steps.specs.Turn.{driven}
 use Rattle.rl_tables.specs.Starts.{layout_of}
 use Rattle.rl_schedule.specs.Turns.{turns_of}
 use Rattle.rl_schedule.specs.Driven.{schedule_report}

@@ -1,6 +1,7 @@
-use Rattle.std.proofs.Common.{◌<◌, ◌^◌, length, reverse, subst}
+use Rattle.std.proofs.Common.{length, reverse}
 use Rattle.std.proofs.lemmas.List.{length-reverse}
-use Rattle.rl_to_rest.proofs.RunEvents.{few_events, few_moves, on_the_line}
+use Rattle.rl_base.specs.Numbers.{IsU32}
+use Rattle.rl_to_rest.proofs.RunEvents.{few_events, on_the_line}
 use Rattle.rl_to_rest.proofs.events.report_of_events.Goals as goal
 
 pub moves_of-requires : goal.moves_of-requires
@@ -11,5 +12,5 @@ moves_of-requires c =
     let log = reverse events in
     let posted = c.counted_events.ensures.posted tables c.args.tries log in
     let made = c.counted_events.ensures.events tables c.args.tries log line c.requires.few_tries c.requires.run in
-    let short : length log < 2 ^ 32 = few_events tables c.args.tries log line c.requires.few_tries posted made in
+    let short : IsU32 (length log) = few_events tables c.args.tries log line c.requires.few_tries posted made in
     on_the_line tables c.args.tries events c.sound_runs.ensures line c.requires.few_tries (rw (← length-reverse events) short) c.requires.run

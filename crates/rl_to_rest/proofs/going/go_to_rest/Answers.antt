@@ -5,6 +5,6 @@ pub loop-preserved : goal.loop-preserved
 loop-preserved g c = (
   tt,
   tt,
-  went_round c.args.nodes.now c.loop.nodes c.nodes_mut.result.now c.go_round.new.nodes c.loop.invariant.2 c.nodes_mut.ensures.value c.in_ok-go_round.ensures
-      (c.replaced_all.ensures c.loop.nodes c.go_round.new.nodes),
+  went_round c.args.nodes.now c.loop.nodes c.as_mut_slice.result.now c.go_round.new.nodes c.loop.invariant.2 c.as_mut_slice.ensures.value
+      c.in_ok-go_round.ensures,
 )

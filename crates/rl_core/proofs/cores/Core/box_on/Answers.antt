@@ -3,11 +3,11 @@ use Rattle.rl_base.specs.declared.layout.Layout.{Layout}
 use Rattle.rl_base.specs.declared.layout.WordKind.{WordKind}
 use Rattle.rl_base.specs.Layout.{word_number, HasWord}
 use Rattle.rl_tables.specs.Starts.{layout_of}
-use Rattle.rl_runs.specs.declared.mind.Mind.TheVariants.{Box}
-use Rattle.rl_runs.specs.Step.{as_mind}
+use Rattle.rl_steps.specs.declared.mind.Mind.TheVariants.{Box}
+use Rattle.rl_steps.specs.Step.{as_mind}
 use Rattle.rl_core.specs.Cores.{state_of}
 use Rattle.rl_box.specs.Steps.{box_step}
-use Rattle.rl_runs.proofs.Acting.{box_on}
+use Rattle.rl_steps.proofs.Acting.{box_on}
 use Rattle.rl_core.proofs.Looking.{box_sound}
 use Rattle.rl_core.proofs.cores.Core.box_on.Goals as goal
 

@@ -2,8 +2,8 @@ use Rattle.std.proofs.Common.{◌≡◌, Some, ap, ◌∙◌, subst, slice_get}
 use Rattle.rl_base.specs.declared.layout.Layout.{Layout}
 use Rattle.rl_base.specs.Layout.{word_number}
 use Rattle.rl_tables.specs.Starts.{layout_of}
-use Rattle.rl_runs.specs.declared.mind.Mind.TheVariants.{Box}
-use Rattle.rl_runs.specs.Step.{as_mind}
+use Rattle.rl_steps.specs.declared.mind.Mind.TheVariants.{Box}
+use Rattle.rl_steps.specs.Step.{as_mind}
 use Rattle.rl_core.specs.Cores.{state_of}
 use Rattle.rl_base.specs.declared.layout.WordKind.{WordKind}
 use Rattle.rl_base.specs.Layout.{HasWord}

@@ -1,8 +1,8 @@
 use Rattle.std.proofs.Common.{◌≡◌, ap, ◌∙◌}
 use Rattle.rl_base.specs.Layout.{word_number}
 use Rattle.rl_tables.specs.Starts.{layout_of}
-use Rattle.rl_runs.specs.declared.mind.Mind.TheVariants.{Track}
-use Rattle.rl_runs.specs.Step.{as_mind}
+use Rattle.rl_steps.specs.declared.mind.Mind.TheVariants.{Track}
+use Rattle.rl_steps.specs.Step.{as_mind}
 use Rattle.rl_core.specs.Cores.{state_of}
 use Rattle.rl_track.specs.Track.{track_target}
 use Rattle.rl_core.proofs.Looking.{track_looked, track_sound}

@@ -3,9 +3,9 @@ use Rattle.rl_base.specs.declared.ids.WordNo.{WordNo}
 use Rattle.rl_base.specs.Layout.{word_number}
 use Rattle.rl_tables.specs.Starts.{layout_of}
 use Rattle.rl_train.specs.Steps.{train_target}
-use Rattle.rl_runs.specs.declared.mind.Mind.TheVariants.{Train}
-use Rattle.rl_runs.specs.Step.{as_mind}
-use Rattle.rl_runs.proofs.Acts.{train_number}
+use Rattle.rl_steps.specs.declared.mind.Mind.TheVariants.{Train}
+use Rattle.rl_steps.specs.Step.{as_mind}
+use Rattle.rl_steps.proofs.FromCalls.{train_number}
 use Rattle.rl_core.specs.Cores.{state_of}
 use Rattle.rl_core.proofs.Looking.{train_looked, train_sound}
 use Rattle.rl_core.proofs.cores.Core.look_train.Goals as goal

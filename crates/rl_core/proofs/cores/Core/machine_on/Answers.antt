@@ -4,12 +4,12 @@ use Rattle.rl_base.specs.declared.layout.WordKind.{WordKind}
 use Rattle.rl_base.specs.Layout.{word_number}
 use Rattle.rl_track.specs.declared.machine.MachineMind.{MachineMind}
 use Rattle.rl_tables.specs.Starts.{layout_of}
-use Rattle.rl_runs.specs.declared.mind.Mind.TheVariants.{Machine}
-use Rattle.rl_runs.specs.Step.{as_mind}
+use Rattle.rl_steps.specs.declared.mind.Mind.TheVariants.{Machine}
+use Rattle.rl_steps.specs.Step.{as_mind}
 use Rattle.rl_base.specs.declared.layout.NodeKind.TheVariants as nodes
 use Rattle.rl_track.specs.Machine.{machine_target, machine_step}
-use Rattle.rl_runs.proofs.Acts.{machine_acts}
-use Rattle.rl_runs.proofs.Acting.{machine_elsewhere}
+use Rattle.rl_steps.proofs.FromCalls.{machine_acts}
+use Rattle.rl_steps.proofs.Acting.{machine_elsewhere}
 use Rattle.rl_core.proofs.cores.Core.machine_on.Goals as goal
 
 pub returns-then-ne : goal.returns-then-ne

@@ -1,5 +1,5 @@
 use Rattle.std.proofs.Common.{arith}
-use Rattle.rl_runs.specs.Turn.{start_drive}
+use Rattle.rl_steps.specs.Turn.{start_drive}
 use Rattle.rl_core.proofs.Started.{start_leads, start_sizes}
 use Rattle.rl_core.proofs.Watching.{watches_start}
 use Rattle.rl_core.proofs.cores.Core.new.Goals as goal

@@ -4,13 +4,13 @@ use Rattle.rl_base.specs.declared.layout.WordKind.{WordKind}
 use Rattle.rl_base.specs.Layout.{word_number}
 use Rattle.rl_track.specs.declared.track.TrackMind.{TrackMind}
 use Rattle.rl_tables.specs.Starts.{layout_of}
-use Rattle.rl_runs.specs.declared.mind.Mind.TheVariants.{Track}
-use Rattle.rl_runs.specs.Step.{as_mind}
+use Rattle.rl_steps.specs.declared.mind.Mind.TheVariants.{Track}
+use Rattle.rl_steps.specs.Step.{as_mind}
 use Rattle.rl_core.specs.Cores.{state_of}
 use Rattle.rl_base.specs.declared.layout.NodeKind.TheVariants as nodes
 use Rattle.rl_track.specs.Track.{track_target, track_step}
-use Rattle.rl_runs.proofs.Acts.{track_acts}
-use Rattle.rl_runs.proofs.Acting.{track_elsewhere}
+use Rattle.rl_steps.proofs.FromCalls.{track_acts}
+use Rattle.rl_steps.proofs.Acting.{track_elsewhere}
 use Rattle.rl_core.proofs.Looking.{track_sound}
 use Rattle.rl_core.proofs.cores.Core.track_on.Goals as goal
 

@@ -5,13 +5,13 @@ use Rattle.rl_base.specs.declared.layout.WordKind.{WordKind}
 use Rattle.rl_base.specs.Layout.{word_number}
 use Rattle.rl_train.specs.declared.mind.TrainMind.{TrainMind}
 use Rattle.rl_tables.specs.Starts.{layout_of}
-use Rattle.rl_runs.specs.declared.mind.Mind.TheVariants.{Train}
-use Rattle.rl_runs.specs.Step.{as_mind}
+use Rattle.rl_steps.specs.declared.mind.Mind.TheVariants.{Train}
+use Rattle.rl_steps.specs.Step.{as_mind}
 use Rattle.rl_core.specs.Cores.{state_of}
 use Rattle.rl_train.specs.Kept.{IsTrainOn}
 use Rattle.rl_train.specs.Steps.{train_target, train_step}
-use Rattle.rl_runs.proofs.Acts.{train_number, train_acts}
-use Rattle.rl_runs.proofs.Acting.{train_elsewhere}
+use Rattle.rl_steps.proofs.FromCalls.{train_number, train_acts}
+use Rattle.rl_steps.proofs.Acting.{train_elsewhere}
 use Rattle.rl_core.proofs.Looking.{train_sound}
 use Rattle.rl_core.proofs.cores.Core.train_on.Goals as goal
 

@@ -1,5 +1,5 @@
 use Rattle.std.proofs.Common.{false, slice_index_or, refl, sym, ◌∙◌, ap}
-use Rattle.rl_runs.specs.Step.{is_ready}
+use Rattle.rl_steps.specs.Step.{is_ready}
 use Rattle.rl_core.specs.Watches.{waits_of}
 use Rattle.rl_core.proofs.Turned.{turned_by}
 use Rattle.rl_core.proofs.cores.Core.turn_closely.Goals as goal

@@ -2,7 +2,7 @@ use Rattle.std.proofs.Common.{◌≡◌, ℕ, ◌-◌, ◌*◌, Some, length, sl
 use Rattle.rl_base.specs.declared.layout.Layout.{Layout}
 use Rattle.rl_base.specs.declared.layout.NodeKind.TheVariants as nodes
 use Rattle.rl_tables.specs.Starts.{layout_of}
-use Rattle.rl_runs.specs.declared.mind.Mind.TheVariants.{Train, Track, Box, Machine}
+use Rattle.rl_steps.specs.declared.mind.Mind.TheVariants.{Train, Track, Box, Machine}
 use Rattle.rl_core.proofs.Looking.{mind_at, train_there, track_there, box_there, machine_there}
 use Rattle.rl_core.proofs.cores.Core.who.Goals as goal
 

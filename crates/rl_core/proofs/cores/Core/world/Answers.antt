@@ -1,7 +1,7 @@
 use Rattle.std.proofs.Common.{◌≡◌, IfOk, subst}
 use Rattle.rl_model.specs.Safety.{IsKept}
 use Rattle.rl_model.specs.World.{World}
-use Rattle.rl_runs.specs.State.{CoreState}
+use Rattle.rl_steps.specs.State.{CoreState}
 use Rattle.rl_domain.specs.Rows.{world_of}
 use Rattle.rl_safety.specs.Ranges.{NamesWhatIsThere}
 use Rattle.rl_safety.specs.Reading.{read}

@@ -1,5 +1,6 @@
 use Rattle.std.proofs.Common.{◌≡◌, ℕ, ◌+◌, List, ◌++◌, Some, take, length, sym, ap, ◌∙◌, arith, zero-add, add-one}
 use Rattle.std.proofs.lemmas.Option.{slice_get_within}
+use Rattle.rl_base.specs.declared.limits.TheConstants.{MAX_SEGMENTS}
 use Rattle.rl_base.specs.declared.draft.Draft.{Draft}
 use Rattle.rl_drafts.specs.Drafts.{ends_from, ends_in_box}
 use Rattle.rl_net.proofs.EndLists.{ends_from_more}
@@ -10,7 +11,7 @@ pub loop-b-init : goal.loop-b-init
 loop-b-init c = λ s name there.
     let within = slice_get_within c.args.index.now.segments s name there in
     let few = c.requires.items.segments in
-    repeated 256 c.none.result s (omega arith) ∙ ap Some c.none.ensures
+    repeated MAX_SEGMENTS c.none.result s (omega arith) ∙ ap Some c.none.ensures
 
 pub loop-b-preserved : goal.loop-b-preserved
 loop-b-preserved c =

@@ -2,7 +2,7 @@ use Rattle.std.proofs.Common.{◌≡◌, Some, None, option_map, ap, sym, ◌∙
 use Rattle.rl_base.specs.declared.ids.WordNo.{WordNo}
 use Rattle.rl_base.specs.declared.ids.NodeNo.{NodeNo}
 use Rattle.rl_record.specs.declared.event.Turn.TheVariants.{Rest}
-use Rattle.rl_runs.specs.Step.{target_of}
+use Rattle.rl_steps.specs.Step.{target_of}
 use Rattle.rl_rule.specs.Seats.{walk_of}
 use Rattle.rl_nodes.specs.Nodes.{Node, node_of}
 use Rattle.rl_nodes.specs.Turns.{IsTurn, Idles, Moves}

@@ -10,10 +10,10 @@ returns-in-Some-outcome_of-clause-ok c = λ text report read at.
 
 pub returns-in-None-outcome_of-clause-err : goal.returns-in-None-outcome_of-clause-err
 returns-in-None-outcome_of-clause-err c = λ text report read at none.
-    no_train_fault c.args.net.now text report c.args.self.now _ c.args.t.0 c.trains-trains.ensures.network read c.next_number.ensures at c.requires none
+    no_train_fault c.args.net.now text report c.args.self.now _ c.args.t.0 c.accepted.ensures read c.next_number.ensures at c.requires none
     (λ line o next is. c.in-None-outcome_of.ensures.none o (let same : c.in-Some.line.now ≡ line = cc (c.in-Some.ensures) in rw same is))
 
 pub returns-in-None-clause-err : goal.returns-in-None-clause-err
 returns-in-None-clause-err c = λ text report read at none.
-    no_train_fault c.args.net.now text report c.args.self.now _ c.args.t.0 c.trains-trains.ensures.network read c.next_number-in-None.ensures at c.requires none
+    no_train_fault c.args.net.now text report c.args.self.now _ c.args.t.0 c.accepted.ensures read c.next_number-in-None.ensures at c.requires none
     (λ line o next is. absurd (cc (c.in-None.ensures)))

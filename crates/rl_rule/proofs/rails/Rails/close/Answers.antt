@@ -23,7 +23,7 @@ pub returns-clause-run : goal.returns-clause-run
 returns-clause-run c =
     let rails = c.args.self in
     let closed = c.close_with-closed.result in
-    let words : c.from_vec.result ≡ slots_items closed.words = c.from_vec.ensures ∙ c.words_of-words.ensures in
+    let words : c.from_vec.result ≡ slots_items closed.words = c.from_vec.ensures ∙ c.closed_words-words.ensures in
     let last = last_log rails.table.shared.key.line.value rails.table.shared.key.tries rails.root.id rails.root.me.0 (slots_items closed.words)
     (slots_items closed.slots) rails.role c.requires c.close_with-closed.ensures.values.2 in
     rw (words, ← rails.line, ← rails.tries) (last.0, last.1.replay)
@@ -32,7 +32,7 @@ pub returns-clause-merge : goal.returns-clause-merge
 returns-clause-merge c =
     let rails = c.args.self in
     let closed = c.close_with-closed.result in
-    let words : c.from_vec.result ≡ slots_items closed.words = c.from_vec.ensures ∙ c.words_of-words.ensures in
+    let words : c.from_vec.result ≡ slots_items closed.words = c.from_vec.ensures ∙ c.closed_words-words.ensures in
     let last = last_log rails.table.shared.key.line.value rails.table.shared.key.tries rails.root.id rails.root.me.0 (slots_items closed.words)
     (slots_items closed.slots) rails.role c.requires c.close_with-closed.ensures.values.2 in
     λ merged merge.

@@ -2,7 +2,7 @@ use Rattle.std.proofs.Common.{◌≡◌, length, ◌∙◌, sym, ap, arith}
 use Rattle.rl_base.specs.Layout.{word_count}
 use Rattle.rl_tables.specs.declared.table.Tables.{Tables}
 use Rattle.rl_tables.specs.Starts.{layout_of}
-use Rattle.rl_runs.proofs.Starts.{start_words-length}
+use Rattle.rl_steps.proofs.Starts.{start_words-length}
 use Rattle.rl_rule.specs.declared.rule.Key.{Key}
 use Rattle.rl_rule.specs.Plays.{Sat}
 use Rattle.rl_rule.proofs.SeatKeeps.{start_keeps}

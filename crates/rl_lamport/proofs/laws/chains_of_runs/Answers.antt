@@ -1,8 +1,0 @@
-use Rattle.rl_lamport.proofs.Later.{Laws}
-use Rattle.rl_lamport.proofs.Chaining.{run_chained, run_left}
-use Rattle.rl_lamport.proofs.laws.chains_of_runs.Goals as goal
-
-pub returns : goal.returns
-returns c =
-    let laws : Laws = record { sound = c.sound_runs.ensures; steps = c.steps_of_owners.ensures; stamp = c.stamps.ensures.stamp } in
-    record { chained = run_chained laws; left = run_left laws }

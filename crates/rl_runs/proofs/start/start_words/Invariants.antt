@@ -1,6 +1,0 @@
-use Rattle.std.proofs.Common.{◌≡◌}
-use Rattle.rl_runs.specs.State.{start_words}
-use Rattle.rl_runs.proofs.start.start_words.Given as goal
-
-abbrev pub invariant-loop-w : goal.invariant-loop-w
-invariant-loop-w l = l.words.items ≡ start_words l.line l.w

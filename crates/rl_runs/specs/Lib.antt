@@ -1,6 +1,0 @@
-pub mod Numbers
-pub mod Step
-pub mod State
-pub mod Run
-pub mod Turn
-pub mod Sound
