@@ -1,5 +1,5 @@
 -- Arms of a network: where a segment has an arm at a box, it is the segment at that arm of the box.
-use Rattle.std.proofs.Common.{◌≡◌, ℕ, ◌<◌, ◌≤◌, length, slice_get, Option, Some, None, refl, arith, lit≤, ◌⊎◌, inl, inr}
+use Rattle.std.proofs.Common.{◌≡◌, ℕ, ◌<◌, ◌≤◌, length, slice_get, Some, lit≤, ◌⊎◌, inl, inr}
 use Rattle.std.proofs.lemmas.Bool.{cases_eq, eq-eqb, ne_eqb}
 use Rattle.std.proofs.lemmas.Option.{option_and_then_some, same_Some, slice_get_within}
 use Rattle.rl_base.specs.Kind.{arms_of}

@@ -1,5 +1,5 @@
 -- A segment's neighbours are those through its two ends.
-use Rattle.std.proofs.Common.{◌≡◌, ℕ, ◌<◌, List, length, slice_get, Option, Some, None, ◌⊎◌, inl, inr, sym, ap, subst, ◌∙◌}
+use Rattle.std.proofs.Common.{◌≡◌, ℕ, ◌<◌, List, length, slice_get, Option, Some, ◌⊎◌, inl, inr, sym, ap, subst, ◌∙◌}
 use Rattle.std.proofs.lemmas.Option.{slice_get_cases, same_Some}
 use Rattle.std.specs.Option.{option_map}
 use Rattle.rl_base.specs.declared.ids.BoxId.{BoxId}

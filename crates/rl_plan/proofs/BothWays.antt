@@ -1,9 +1,8 @@
 -- Neighbours: being one goes both ways, both are segments of the network, the box is at an end of each, and each is the
 -- segment at one of its arms.
-use Rattle.std.proofs.Common.{◌≡◌, ℕ, ◌<◌, Bool, true, false, eqb, ◌||◌, ◌&&◌, List, length, slice_get, Option, Some, None, option_and_then, ◌⊎◌, inl, inr, refl, sym, ap, ap₂, subst, ◌∙◌, arith, IsTrue, cond}
+use Rattle.std.proofs.Common.{◌≡◌, ℕ, ◌<◌, Bool, true, false, eqb, ◌||◌, ◌&&◌, length, slice_get, Option, Some, None, ◌⊎◌, inl, inr, refl, sym, ap₂, subst, arith, IsTrue}
 use Rattle.std.proofs.lemmas.Bool.{false≢true, or_cases}
-use Rattle.std.proofs.lemmas.Bool.Decides.{nat_tests}
-use Rattle.std.proofs.lemmas.Option.{slice_get_within, option_and_then_some}
+use Rattle.std.proofs.lemmas.Option.{option_and_then_some}
 use Rattle.std.specs.Option.{option_map}
 use Rattle.rl_base.specs.declared.ids.SegId.{SegId}
 use Rattle.rl_model.specs.declared.network.SwitchBox.{SwitchBox}
@@ -14,8 +13,8 @@ use Rattle.rl_base.specs.declared.kind.Side.TheVariants.{Left, Right}
 use Rattle.rl_base.specs.Kind.{arms_of, are_arms, arms_join}
 use Rattle.rl_model.specs.declared.network.NetworkPlan.{NetworkPlan}
 use Rattle.rl_model.specs.declared.network.Segment.{Segment}
-use Rattle.rl_model.specs.Network.{IsNetwork, arm_at, arm_of, kind_of, joined, connects, can_connect, segment_at}
-use Rattle.rl_plan.proofs.Arms.{IsAtArm, IsAtArm-from_arm, arm_at_cases, segment_there, arms_few}
+use Rattle.rl_model.specs.Network.{IsNetwork, arm_of, kind_of, joined, connects, segment_at}
+use Rattle.rl_plan.proofs.Arms.{IsAtArm-from_arm, arm_at_cases, segment_there, arms_few}
 use Rattle.rl_plan.specs.Walks.{AreNeighbours}
 
 -- two arms in either order
@@ -48,7 +47,7 @@ pub neighbours-swap : (net : NetworkPlan) (b s r : ℕ) → AreNeighbours net b 
 neighbours-swap net b s r h =
     subst IsTrue
     (ap₂ (λ (p q : Bool). p || q) (joined-swap (kind_of net b) Left (arm_of net s b) (arm_of net r b))
-        (joined-swap (kind_of net b) Right (arm_of net s b) (arm_of net r b)))
+    (joined-swap (kind_of net b) Right (arm_of net s b) (arm_of net r b)))
     h
 
 -- where a box joins two arms, both are there

@@ -1,5 +1,5 @@
 -- A route that is built step by step: with any steps that lead on down it leads down from its beginning.
-use Rattle.std.proofs.Common.{◌≡◌, ℕ, ◌+◌, ◌-◌, ◌<◌, ◌≤◌, List, [], ◌∷◌, ◌++◌, length, Option, Some, None, refl, sym, ap, subst, ◌∙◌, arith, append_assoc, length-append}
+use Rattle.std.proofs.Common.{◌≡◌, ℕ, ◌+◌, ◌-◌, ◌<◌, List, [], ◌∷◌, ◌++◌, length, Option, Some, refl, sym, ap, subst, ◌∙◌, arith, append_assoc, length-append}
 use Rattle.std.proofs.lemmas.List.{append-nil}
 use Rattle.rl_base.specs.declared.ids.SegId.{SegId}
 use Rattle.rl_model.specs.declared.network.NetworkPlan.{NetworkPlan}
@@ -19,7 +19,7 @@ pub record IsBuilt (net : NetworkPlan) (levels : List (Option ℕ)) (begin n k :
 -- nothing built yet
 pub built_none : (net : NetworkPlan) (levels : List (Option ℕ)) (n : ℕ) (s : SegId) → IsSegmentOf net s → level_of levels s.0 ≡ Some n
     → IsBuilt net levels s.0 n 0 s []
-built_none net levels n s there level = 
+built_none net levels n s there level =
     let whole : n ≡ n - 0 = omega arith in
     record { there = there; long = refl; level = subst (λ (m : ℕ). level_of levels s.0 ≡ Some m) whole level; leads = λ rest long down. down }
 
@@ -33,21 +33,20 @@ built_more net levels begin n k s route step below built chosen =
       long = length-append route (step ∷ []) ∙ ap (λ (m : ℕ). m + 1) built.long;
       level = subst (λ (m : ℕ). level_of levels step.s.0 ≡ Some m) left chosen.leads.level;
       leads = λ rest long down.
-        let e : length rest ≡ n - k - 1 = omega arith in
-        let all : length (step ∷ rest) ≡ n - k = omega arith in
-        subst (λ (xs : List PlanStep). LeadsDown net levels begin xs) (sym (append_assoc route (step ∷ []) rest))
-        (built.leads (step ∷ rest) all (subst (λ (m : ℕ). IsChosen net levels s.0 m step) (sym e) chosen, down));
+          let e : length rest ≡ n - k - 1 = omega arith in
+          let all : length (step ∷ rest) ≡ n - k = omega arith in
+          subst (λ (xs : List PlanStep). LeadsDown net levels begin xs) (sym (append_assoc route (step ∷ []) rest))
+          (built.leads (step ∷ rest) all (subst (λ (m : ℕ). IsChosen net levels s.0 m step) (sym e) chosen, down));
     }
 
 -- all built
 pub built_all : (net : NetworkPlan) (levels : List (Option ℕ)) (begin n k : ℕ) (s : SegId) (route : List PlanStep) → k ≡ n
     → IsBuilt net levels begin n k s route → (length route ≡ n) × LeadsDown net levels begin route
 built_all net levels begin n k s route all built =
-    let none : 0 ≡ n - k = omega arith in
-    (
+    let none : 0 ≡ n - k = omega arith in (
       built.long ∙ all,
       subst (λ (xs : List PlanStep). LeadsDown net levels begin xs) (append-nil route)
-      (built.leads [] none (subst (λ (m : ℕ). level_of levels s.0 ≡ Some m) (sym none) built.level)),
+          (built.leads [] none (subst (λ (m : ℕ). level_of levels s.0 ≡ Some m) (sym none) built.level)),
     )
 
 -- the level that is left, as that above the next one

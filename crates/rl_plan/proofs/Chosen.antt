@@ -1,16 +1,13 @@
 -- The chosen step: through the lower box the lowest segment, else through the higher one.
-use Rattle.std.proofs.Common.{◌≡◌, ℕ, ◌<◌, ◌≤◌, List, Option, Some, None, slice_get, ◌⊎◌, inl, inr, refl, sym, ap, subst, ◌∙◌, arith}
+use Rattle.std.proofs.Common.{◌≡◌, ℕ, ◌<◌, ◌≤◌, List, Option, Some, None, inl, inr, sym, ap, subst, arith}
 use Rattle.std.proofs.lemmas.Option.{slice_get_cases, same_Some}
 use Rattle.rl_base.specs.declared.ids.BoxId.{BoxId}
 use Rattle.rl_base.specs.declared.ids.Arm.{Arm}
 use Rattle.rl_base.specs.declared.ids.SegId.{SegId}
 use Rattle.rl_model.specs.declared.network.NetworkPlan.{NetworkPlan}
-use Rattle.rl_model.specs.declared.network.Segment.{Segment}
 use Rattle.rl_model.specs.Network.{IsNetwork}
 use Rattle.rl_plan.specs.declared.plan.PlanStep.{PlanStep}
-use Rattle.rl_plan.specs.Walks.{AreNeighbours}
-use Rattle.rl_plan.specs.Levels.{level_of}
-use Rattle.rl_plan.specs.Plans.{IsChosen, IsNoHigher, LeadsTo}
+use Rattle.rl_plan.specs.Plans.{IsChosen, LeadsTo}
 use Rattle.rl_plan.specs.Choosing.{IsLowest, IsNext}
 use Rattle.rl_plan.proofs.Around.{Ends, between_ends}
 
@@ -42,15 +39,15 @@ pub chosen_low : (net : NetworkPlan) (levels : List (Option ℕ)) (s n : ℕ) (e
 chosen_low net levels s n e r network is lowest = record {
   leads = record { near = lowest.0.near; level = lowest.0.level };
   least = λ other leads.
-    elim (between_ends net other.b.0 s other.s.0 e is leads.near) [
-      | inl at ↦
-          let low : r.0 ≤ other.s.0 = lowest.1 other.s.0 (at_box net levels s n other.b.0 e.0.0.0 other.s.0 at (next_of_step net levels s n other leads)) in
-          inr (sym at, low)
-      | inr at ↦
-          let order : e.0.0.0 < e.1.0.0 = ends_order net s e network is in
-          let there : other.b.0 ≡ e.1.0.0 = at in
-          inl (omega arith)
-    ];
+      elim (between_ends net other.b.0 s other.s.0 e is leads.near) [
+        | inl at ↦
+            let low : r.0 ≤ other.s.0 = lowest.1 other.s.0 (at_box net levels s n other.b.0 e.0.0.0 other.s.0 at (next_of_step net levels s n other leads)) in
+            inr (sym at, low)
+        | inr at ↦
+            let order : e.0.0.0 < e.1.0.0 = ends_order net s e network is in
+            let there : other.b.0 ≡ e.1.0.0 = at in
+            inl (omega arith)
+      ];
 }
 
 -- where none does, and one does through the higher box
@@ -59,12 +56,12 @@ pub chosen_high : (net : NetworkPlan) (levels : List (Option ℕ)) (s n : ℕ) (
 chosen_high net levels s n e r is none lowest = record {
   leads = record { near = lowest.0.near; level = lowest.0.level };
   least = λ other leads.
-    elim (between_ends net other.b.0 s other.s.0 e is leads.near) [
-      | inl at ↦ absurd (none other.s.0 (at_box net levels s n other.b.0 e.0.0.0 other.s.0 at (next_of_step net levels s n other leads)))
-      | inr at ↦
-          let low : r.0 ≤ other.s.0 = lowest.1 other.s.0 (at_box net levels s n other.b.0 e.1.0.0 other.s.0 at (next_of_step net levels s n other leads)) in
-          inr (sym at, low)
-    ];
+      elim (between_ends net other.b.0 s other.s.0 e is leads.near) [
+        | inl at ↦ absurd (none other.s.0 (at_box net levels s n other.b.0 e.0.0.0 other.s.0 at (next_of_step net levels s n other leads)))
+        | inr at ↦
+            let low : r.0 ≤ other.s.0 = lowest.1 other.s.0 (at_box net levels s n other.b.0 e.1.0.0 other.s.0 at (next_of_step net levels s n other leads)) in
+            inr (sym at, low)
+      ];
 }
 
 -- where none does through either

@@ -1,13 +1,13 @@
 -- From a segment with a level a step leads down, and the chosen steps are a walk to the end.
-use Rattle.std.proofs.Common.{◌≡◌, ℕ, ◌+◌, ◌<◌, ◌≤◌, List, [], ◌∷◌, length, Option, Some, None, refl, sym, subst, ◌∙◌, arith}
+use Rattle.std.proofs.Common.{◌≡◌, ℕ, ◌+◌, ◌≤◌, List, [], ◌∷◌, length, Option, Some, None, refl, sym, subst, ◌∙◌, arith}
 use Rattle.std.proofs.lemmas.Option.{same_Some}
 use Rattle.rl_base.specs.declared.ids.SegId.{SegId}
 use Rattle.rl_model.specs.declared.network.NetworkPlan.{NetworkPlan}
 use Rattle.rl_plan.specs.declared.plan.PlanStep.{PlanStep}
 use Rattle.rl_plan.specs.declared.plan.Plan.{Plan}
-use Rattle.rl_plan.specs.Walks.{AreNeighbours, IsWalk}
-use Rattle.rl_plan.specs.Levels.{level_of, HasWalk, IsLevel}
-use Rattle.rl_plan.specs.Plans.{IsChosen, IsLeastPlan, IsRoute, IsRouteOf, LeadsDown, LeadsTo, Passes}
+use Rattle.rl_plan.specs.Walks.{IsWalk}
+use Rattle.rl_plan.specs.Levels.{level_of, IsLevel}
+use Rattle.rl_plan.specs.Plans.{IsLeastPlan, IsRoute, IsRouteOf, LeadsDown, LeadsTo, Passes}
 use Rattle.rl_plan.specs.Searching.{AreLevels}
 use Rattle.rl_plan.proofs.BothWays.{neighbours-swap}
 use Rattle.rl_plan.proofs.Shortest.{no_shorter, risen}
@@ -44,15 +44,14 @@ down_is_walk net to levels s (step ∷ steps) are down = (down.0.leads.near, dow
 
 -- the level that a segment has is its own
 own : (net : NetworkPlan) (to : SegId) (levels : List (Option ℕ)) (s : ℕ) (o : Option ℕ) → AreLevels net to levels → level_of levels s ≡ o → IsLevel net to.0 s o
-own net to levels s (Some n) are is =
-    (
-      are.walks s n is,
-      λ steps walk.
-          let least = no_shorter net levels to.0 s steps are.rises are.end walk in
-          let same : n ≡ least.0 = same_Some n least.0 (sym is ∙ least.1) in
-          let few : least.0 ≤ length steps = least.2 in
-          omega arith,
-    )
+own net to levels s (Some n) are is = (
+  are.walks s n is,
+  λ steps walk.
+      let least = no_shorter net levels to.0 s steps are.rises are.end walk in
+      let same : n ≡ least.0 = same_Some n least.0 (sym is ∙ least.1) in
+      let few : least.0 ≤ length steps = least.2 in
+      omega arith,
+)
 own net to levels s None are is = λ steps walk.
     let least = no_shorter net levels to.0 s steps are.rises are.end walk in
     absurd (no_Some least.0 (sym is ∙ least.1))

@@ -8,3 +8,4 @@ pub mod Lowest
 pub mod Chosen
 pub mod Downward
 pub mod Building
+pub mod Steps

@@ -1,5 +1,5 @@
 -- Rounds of the search: what one segment that gets a level changes, and what many such changes come to.
-use Rattle.std.proofs.Common.{◌≡◌, ℕ, ◌+◌, ◌<◌, ◌≤◌, Bool, true, false, cond, List, length, get_or, Option, Some, None, ◌⊎◌, inl, inr, refl, sym, ap, subst, ◌∙◌, arith, ◌||◌}
+use Rattle.std.proofs.Common.{◌≡◌, ℕ, ◌+◌, ◌<◌, Bool, true, false, cond, List, length, get_or, Option, Some, None, inl, inr, refl, sym, ap, subst, ◌∙◌, arith, ◌||◌}
 use Rattle.std.proofs.Math.ListN.{set}
 use Rattle.std.proofs.lemmas.Bool.{cases_eq}
 use Rattle.std.proofs.lemmas.List.{get_or-set_same, get_or-set_other, length-set}
@@ -21,19 +21,19 @@ pub grows-one : (net : NetworkPlan) (n b s r : ℕ) (old : List (Option ℕ)) �
 grows-one net n b s r old there none level near = record {
   each = length-set old r (Some (n + 1));
   kept = λ x m is.
-    elim (cases_eq x r) [
-      | inl same ↦ absurd (let e : level_of old r ≡ Some m = subst (λ (k : ℕ). level_of old k ≡ Some m) same is in cc)
-      | inr other ↦ get_or-set_other old r x (Some (n + 1)) None other ∙ is
-    ];
+      elim (cases_eq x r) [
+        | inl same ↦ absurd (let e : level_of old r ≡ Some m = subst (λ (k : ℕ). level_of old k ≡ Some m) same is in cc)
+        | inr other ↦ get_or-set_other old r x (Some (n + 1)) None other ∙ is
+      ];
   only = λ x m is.
-    elim (cases_eq x r) [
-      | inl same ↦
-          inr (
-            same_Some m (n + 1) (sym is ∙ (ap (λ (k : ℕ). get_or (set old r (Some (n + 1))) k None) same ∙ get_or-set_same old r (Some (n + 1)) None there)),
-            (b, s, subst (λ (k : ℕ). AreNeighbours net b s k) (sym same) near, level)
-          )
-      | inr other ↦ inl (sym (get_or-set_other old r x (Some (n + 1)) None other) ∙ is)
-    ];
+      elim (cases_eq x r) [
+        | inl same ↦
+            inr (
+              same_Some m (n + 1) (sym is ∙ (ap (λ (k : ℕ). get_or (set old r (Some (n + 1))) k None) same ∙ get_or-set_same old r (Some (n + 1)) None there)),
+              (b, s, subst (λ (k : ℕ). AreNeighbours net b s k) (sym same) near, level),
+            )
+        | inr other ↦ inl (sym (get_or-set_other old r x (Some (n + 1)) None other) ∙ is)
+      ];
 }
 
 -- one change after another
@@ -42,10 +42,10 @@ grows-then net n a b c first second = record {
   each = second.each ∙ first.each;
   kept = λ s m is. second.kept s m (first.kept s m is);
   only = λ r m is.
-    elim (second.only r m is) [
-      | inl before ↦ first.only r m before
-      | inr new ↦ inr (new.0, (new.1.0, new.1.1, new.1.2, was new.1.1 new.1.3))
-    ];
+      elim (second.only r m is) [
+        | inl before ↦ first.only r m before
+        | inr new ↦ inr (new.0, (new.1.0, new.1.1, new.1.2, was new.1.1 new.1.3))
+      ];
 }
   where
     was : (s : ℕ) → level_of b s ≡ Some n → level_of a s ≡ Some n

@@ -1,15 +1,14 @@
 -- The search: what stands at its start, and after a round more.
-use Rattle.std.proofs.Common.{◌≡◌, ℕ, ◌+◌, ◌<◌, ◌≤◌, Bool, true, false, List, [], ◌∷◌, ◌++◌, take, drop, length, get_or, Option, Some, None, ◌⊎◌, inl, inr, refl, sym, ap, subst, ◌∙◌, arith}
+use Rattle.std.proofs.Common.{◌≡◌, ℕ, ◌+◌, ◌<◌, ◌≤◌, Bool, true, false, List, ◌∷◌, ◌++◌, take, drop, length, Option, Some, None, ◌⊎◌, inl, inr, refl, sym, subst, ◌∙◌, arith}
 use Rattle.std.proofs.lemmas.Bool.{cases_lt}
-use Rattle.rl_base.specs.declared.ids.BoxId.{BoxId}
 use Rattle.rl_base.specs.declared.ids.SegId.{SegId}
 use Rattle.std.proofs.lemmas.Grind.{common_steps}
 use Rattle.rl_model.specs.declared.network.NetworkPlan.{NetworkPlan}
 use Rattle.rl_model.specs.Network.{IsNetwork}
 use Rattle.rl_plan.specs.declared.plan.PlanStep.{PlanStep}
-use Rattle.rl_plan.specs.Walks.{AreNeighbours, IsWalk}
+use Rattle.rl_plan.specs.Walks.{AreNeighbours}
 use Rattle.rl_plan.specs.Levels.{level_of, HasWalk}
-use Rattle.rl_plan.specs.Rising.{RisesTo, RisesByOne}
+use Rattle.rl_plan.specs.Rising.{RisesTo}
 use Rattle.rl_plan.specs.Marking.{unmarked, Grows, IsGrown, IsMarked, MarksFrom, Tells}
 use Rattle.rl_plan.specs.Searching.{AreLevels, GoesOn, IsSearched}
 use Rattle.rl_plan.proofs.BothWays.{neighbours-swap}
@@ -53,18 +52,21 @@ next_round net to n more old new so_far grown marks = record {
               subst (λ (k : ℕ). HasWalk net to s k) (sym one.0)
               (step_more net to one.1.0 one.1.1 s n one.1.2 (so_far.walks one.1.1 n one.1.3))
         ]
+
     low_now : (s m : ℕ) → level_of new s ≡ Some m → m ≤ n + 1
     low_now s m is =
         elim (grown.grows.only s m is) [
           | inl before ↦ let few : m ≤ n = so_far.low s m before in omega arith
           | inr one ↦ let e : m ≡ n + 1 = one.0 in omega arith
         ]
+
     m_below : (m : ℕ) → m < n + 1 → (m < n) ⊎ (m ≡ n)
     m_below m below =
         elim (cases_lt m n) [
           | inl less ↦ inl less
           | inr past ↦ inr (omega arith)
         ]
+
     before_or_last : (s b r m : ℕ) → level_of old s ≡ Some m → m < n + 1 → AreNeighbours net b s r → RisesTo m (level_of new r)
     before_or_last s b r m before below near =
         elim (m_below m below) [
@@ -73,12 +75,14 @@ next_round net to n more old new so_far grown marks = record {
               subst (λ (k : ℕ). RisesTo k (level_of new r)) (sym same)
               (rises_low n r new (λ k. low_now r k) (marks s b r (subst (λ (k : ℕ). level_of old s ≡ Some k) same before) near))
         ]
+
     near_now : (s b r m : ℕ) → level_of new s ≡ Some m → m < n + 1 → AreNeighbours net b s r → RisesTo m (level_of new r)
     near_now s b r m is below near =
         elim (grown.grows.only s m is) [
           | inl before ↦ before_or_last s b r m before below near
           | inr one ↦ absurd (let e : m ≡ n + 1 = one.0 in omega arith)
         ]
+
     goes_on_now : (x : Bool) → Tells x old new → GoesOn net (n + 1) x new
     goes_on_now true fewer = let left : n + unmarked old < length net.segments = so_far.goes_on in omega arith
     goes_on_now false same = λ s b r m near is.

@@ -2,7 +2,7 @@
 use Rattle.std.proofs.Common.{◌≡◌, ℕ, ◌+◌, ◌≤◌, List, [], ◌∷◌, length, Option, Some, None, refl, sym, subst, ◌∙◌, arith}
 use Rattle.rl_model.specs.declared.network.NetworkPlan.{NetworkPlan}
 use Rattle.rl_plan.specs.declared.plan.PlanStep.{PlanStep}
-use Rattle.rl_plan.specs.Walks.{AreNeighbours, IsWalk}
+use Rattle.rl_plan.specs.Walks.{IsWalk}
 use Rattle.rl_plan.specs.Levels.{level_of, IsLevel}
 use Rattle.rl_plan.specs.Plans.{IsRouteOf}
 use Rattle.std.proofs.lemmas.Option.{same_Some}
@@ -28,15 +28,14 @@ no_shorter net levels to s (step ∷ steps) rises end walk =
 -- the level of a segment is its own: a route of so many steps leads from it, and no walk has fewer steps
 pub own_level : (net : NetworkPlan) (levels : List (Option ℕ)) (to s : ℕ) (o : Option ℕ) (route : List PlanStep) → RisesByOne net levels
     → level_of levels to ≡ Some 0 → o ≡ level_of levels s → IsRouteOf net s to o route → IsLevel net to s o
-own_level net levels to s (Some n) route rises end is led =
-    (
-      (route, led.1, led.0),
-      λ steps walk.
-          let least = no_shorter net levels to s steps rises end walk in
-          let same : n ≡ least.0 = same_Some n least.0 (is ∙ least.1) in
-          let few : least.0 ≤ length steps = least.2 in
-          omega arith,
-    )
+own_level net levels to s (Some n) route rises end is led = (
+  (route, led.1, led.0),
+  λ steps walk.
+      let least = no_shorter net levels to s steps rises end walk in
+      let same : n ≡ least.0 = same_Some n least.0 (is ∙ least.1) in
+      let few : least.0 ≤ length steps = least.2 in
+      omega arith,
+)
 own_level net levels to s None route rises end is led = λ steps walk. let least = no_shorter net levels to s steps rises end walk in absurd (no_Some least.0 (is ∙ least.1))
   where
     no_Some : (m : ℕ) → None ≡ Some m → ⊥

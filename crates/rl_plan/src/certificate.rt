@@ -72,7 +72,8 @@ fn leads_on(net: &Network, s: SegId, step: PlanStep) -> bool
 {
     step.b.0 < net.boxes()
         && step.s.0 < net.segments()
-        && (net.connects(step.b, s, step.s, Side::Left) || net.connects(step.b, s, step.s, Side::Right))
+        && (net.connects(step.b, s, step.s, Side::Left)
+            || net.connects(step.b, s, step.s, Side::Right))
 }
 
 /// Whether the steps lead from the one segment to the other, each to a neighbour.
@@ -102,18 +103,35 @@ fn is_route(net: &Network, from: SegId, to: SegId, steps: Option<u32>, route: &P
 }
 
 /// Whether there is a level for each segment, 0 at the end, and so many steps as the level of the beginning.
-fn has_ends(net: &Network, from: SegId, to: SegId, steps: Option<u32>, levels: &[Option<u32>]) -> bool
+fn has_ends(
+    net: &Network,
+    from: SegId,
+    to: SegId,
+    steps: Option<u32>,
+    levels: &[Option<u32>],
+) -> bool
     ensures { IsTrue result ↔ HasEnds net.now from to steps levels.now }
 {
-    levels.len() == net.segments() as usize && level_of(levels, to) == Some(0) && steps == level_of(levels, from)
+    levels.len() == net.segments() as usize
+        && level_of(levels, to) == Some(0)
+        && steps == level_of(levels, from)
 }
 
 /// Whether so many steps, the route and the levels show what a plan has to.
-fn shows(net: &Network, from: SegId, to: SegId, steps: Option<u32>, route: &PlanSteps, levels: &[Option<u32>]) -> bool
+fn shows(
+    net: &Network,
+    from: SegId,
+    to: SegId,
+    steps: Option<u32>,
+    route: &PlanSteps,
+    levels: &[Option<u32>],
+) -> bool
     requires there { IsSegmentOf net.now from }
     ensures { IsTrue result ↔ Shows net.now from to steps route.now levels.now }
 {
-    has_ends(net, from, to, steps, levels) && is_route(net, from, to, steps, route) && rises(net, levels)
+    has_ends(net, from, to, steps, levels)
+        && is_route(net, from, to, steps, route)
+        && rises(net, levels)
 }
 
 /// Whether the plan shows that it is one of the fewest steps: a level for each segment, 0 at the end, that rises by one
@@ -124,5 +142,12 @@ pub fn check_plan(net: &Network, from: SegId, to: SegId, plan: &Plan) -> bool
     ensures passes { IsTrue result ↔ Passes net.now from to plan.now }
     ensures least { IsTrue result → IsLevel net.now to.0 from.0 plan.now.steps }
 {
-    shows(net, from, to, plan.steps, &plan.route, plan.levels.as_slice())
+    shows(
+        net,
+        from,
+        to,
+        plan.steps,
+        &plan.route,
+        plan.levels.as_slice(),
+    )
 }

@@ -13,7 +13,9 @@ mod neighbours;
 pub mod plan;
 mod route;
 mod search;
+mod text;
 
 pub use certificate::check_plan;
 pub use least::least_plan;
 pub use plan::{Levels, Plan, PlanStep, PlanSteps};
+pub use text::plan_text;

@@ -13,7 +13,14 @@ use rl_net::Network;
 use std::alloc::Global;
 
 /// The segment at arm `y` of the box, if it is a neighbour of level `n`.
-fn next_at(net: &Network, levels: &[Option<u32>], b: BoxId, s: SegId, n: u32, y: Arm) -> Option<SegId>
+fn next_at(
+    net: &Network,
+    levels: &[Option<u32>],
+    b: BoxId,
+    s: SegId,
+    n: u32,
+    y: Arm,
+) -> Option<SegId>
     requires there { IsBoxOf net.now b × IsSegmentOf net.now s }
     ensures some { IfSome result (λ r. IsNext net.now levels.now b.0 s.0 n r.0 × (segment_at net.now b.0 y.0 ≡ Some r.0)) }
     ensures none { IfNone result ((r : ℕ) → segment_at net.now b.0 y.0 ≡ Some r → ¬ IsNext net.now levels.now b.0 s.0 n r) }

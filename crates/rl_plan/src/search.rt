@@ -33,7 +33,11 @@ fn search(net: &Network, to: SegId, levels: &mut [Option<u32>])
 }
 
 /// The levels of all segments.
-pub(crate) fn levels_to(alloc: Global, net: &Network, to: SegId) -> Result<Vec<Option<u32>>, NoMemory>
+pub(crate) fn levels_to(
+    alloc: Global,
+    net: &Network,
+    to: SegId,
+) -> Result<Vec<Option<u32>>, NoMemory>
     requires { IsSegmentOf net.now to }
     ensures { IfOk result (λ levels. AreLevels net.now to levels.items) }
 {

@@ -1,4 +1,4 @@
-use Rattle.std.proofs.Common.{ℕ, ◌<◌, length, drop, ◌↔◌}
+use Rattle.std.proofs.Common.{drop, ◌↔◌}
 use Rattle.rl_model.specs.Network.{IsSegmentOf}
 use Rattle.rl_plan.specs.Walks.{IsWalk}
 use Rattle.rl_plan.proofs.certificate.is_walk.Given as goal

@@ -10,13 +10,13 @@ returns-clause-least c =
     let same : c.in_ok-levels.levels.items ≡ c.from_vec.result = sym c.from_vec.ensures in
     let lent : c.deref-2.result.now ≡ c.from_vec.result = c.deref-2.ensures.value ∙ same in
     let are : AreLevels c.args.net.now c.args.to c.from_vec.result =
-        subst (λ (k : List (Option ℕ)). AreLevels c.args.net.now c.args.to k) same c.in_ok-levels.ensures
+    subst (λ (k : List (Option ℕ)). AreLevels c.args.net.now c.args.to k) same c.in_ok-levels.ensures
     in
     let steps : c.level_of-steps.result ≡ level_of c.from_vec.result c.args.from.0 =
-        subst (λ (k : List (Option ℕ)). c.level_of-steps.result ≡ level_of k c.args.from.0) (c.deref.ensures.value ∙ same) c.level_of-steps.ensures
+    subst (λ (k : List (Option ℕ)). c.level_of-steps.result ≡ level_of k c.args.from.0) (c.deref.ensures.value ∙ same) c.level_of-steps.ensures
     in
     let route : IsRoute c.args.net.now c.from_vec.result c.args.from.0 c.level_of-steps.result c.in_ok-route.route =
-        subst (λ (k : List (Option ℕ)). IsRoute c.args.net.now k c.args.from.0 c.level_of-steps.result c.in_ok-route.route) lent c.in_ok-route.ensures
+    subst (λ (k : List (Option ℕ)). IsRoute c.args.net.now k c.args.from.0 c.level_of-steps.result c.in_ok-route.route) lent c.in_ok-route.ensures
     in
     least_plan_is c.args.net.now c.args.from c.args.to _ are steps route
 
@@ -25,12 +25,12 @@ returns-clause-passes c =
     let same : c.in_ok-levels.levels.items ≡ c.from_vec.result = sym c.from_vec.ensures in
     let lent : c.deref-2.result.now ≡ c.from_vec.result = c.deref-2.ensures.value ∙ same in
     let are : AreLevels c.args.net.now c.args.to c.from_vec.result =
-        subst (λ (k : List (Option ℕ)). AreLevels c.args.net.now c.args.to k) same c.in_ok-levels.ensures
+    subst (λ (k : List (Option ℕ)). AreLevels c.args.net.now c.args.to k) same c.in_ok-levels.ensures
     in
     let steps : c.level_of-steps.result ≡ level_of c.from_vec.result c.args.from.0 =
-        subst (λ (k : List (Option ℕ)). c.level_of-steps.result ≡ level_of k c.args.from.0) (c.deref.ensures.value ∙ same) c.level_of-steps.ensures
+    subst (λ (k : List (Option ℕ)). c.level_of-steps.result ≡ level_of k c.args.from.0) (c.deref.ensures.value ∙ same) c.level_of-steps.ensures
     in
     let route : IsRoute c.args.net.now c.from_vec.result c.args.from.0 c.level_of-steps.result c.in_ok-route.route =
-        subst (λ (k : List (Option ℕ)). IsRoute c.args.net.now k c.args.from.0 c.level_of-steps.result c.in_ok-route.route) lent c.in_ok-route.ensures
+    subst (λ (k : List (Option ℕ)). IsRoute c.args.net.now k c.args.from.0 c.level_of-steps.result c.in_ok-route.route) lent c.in_ok-route.ensures
     in
     plan_passes c.args.net.now c.args.from c.args.to _ are steps route

@@ -1,4 +1,4 @@
-use Rattle.std.proofs.Common.{Option, Some, None}
+use Rattle.std.proofs.Common.{Some, None}
 use Rattle.std.proofs.lemmas.List.{get_or-set_same}
 use Rattle.rl_plan.proofs.marking.mark.Goals as goal
 

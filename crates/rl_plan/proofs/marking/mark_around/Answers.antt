@@ -1,4 +1,4 @@
-use Rattle.std.proofs.Common.{ℕ, subst, sym, inl, inr}
+use Rattle.std.proofs.Common.{ℕ, subst, inl, inr}
 use Rattle.rl_plan.specs.Walks.{AreNeighbours}
 use Rattle.rl_plan.proofs.Around.{ends_there, between_ends}
 use Rattle.rl_plan.proofs.Marked.{grown-then, marked-kept}
@@ -17,10 +17,10 @@ returns c = record {
   grown = grown-then c.args.net.now c.args.n c.mark_through-first.result c.mark_through-second.result _ _ _ c.mark_through-first.ensures.grown
       c.mark_through-second.ensures.grown;
   marks = λ b r near.
-    elim (between_ends c.args.net.now b c.args.s.0 r c.ends.result c.ends.ensures near) [
-      | inl at ↦
-          marked-kept c.args.net.now c.args.n r _ _ c.mark_through-second.ensures.grown.grows
-          (c.mark_through-first.ensures.marks r (subst (λ (k : ℕ). AreNeighbours c.args.net.now k c.args.s.0 r) at near))
-      | inr at ↦ c.mark_through-second.ensures.marks r (subst (λ (k : ℕ). AreNeighbours c.args.net.now k c.args.s.0 r) at near)
-    ];
+      elim (between_ends c.args.net.now b c.args.s.0 r c.ends.result c.ends.ensures near) [
+        | inl at ↦
+            marked-kept c.args.net.now c.args.n r _ _ c.mark_through-second.ensures.grown.grows
+            (c.mark_through-first.ensures.marks r (subst (λ (k : ℕ). AreNeighbours c.args.net.now k c.args.s.0 r) at near))
+        | inr at ↦ c.mark_through-second.ensures.marks r (subst (λ (k : ℕ). AreNeighbours c.args.net.now k c.args.s.0 r) at near)
+      ];
 }

@@ -9,8 +9,8 @@ pub loop-s-preserved : goal.loop-s-preserved
 loop-s-preserved c = (
   grown-then c.args.net.now c.args.n _ _ _ _ _ c.loop-s.invariant.0 c.mark_from-new.ensures.grown,
   below_more (λ (r : ℕ). MarksFrom c.args.net.now c.args.n c.args.levels.now c.mark_from-new.new.levels r) c.loop-s.s
-  (λ r here. marks-kept c.args.net.now c.args.n r _ _ _ c.mark_from-new.ensures.grown.grows (c.loop-s.invariant.1 r here))
-  (marks-later c.args.net.now c.args.n c.loop-s.s _ _ _ c.loop-s.invariant.0.grows c.mark_from-new.ensures.marks),
+      (λ r here. marks-kept c.args.net.now c.args.n r _ _ _ c.mark_from-new.ensures.grown.grows (c.loop-s.invariant.1 r here))
+      (marks-later c.args.net.now c.args.n c.loop-s.s _ _ _ c.loop-s.invariant.0.grows c.mark_from-new.ensures.marks),
 )
 
 pub returns-clause-marks : goal.returns-clause-marks

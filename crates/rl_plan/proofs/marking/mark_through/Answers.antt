@@ -1,4 +1,4 @@
-use Rattle.std.proofs.Common.{ℕ, ◌<◌, arith}
+use Rattle.std.proofs.Common.{◌<◌, arith}
 use Rattle.rl_plan.proofs.BothWays.{neighbour_arm}
 use Rattle.rl_plan.proofs.marking.mark_through.Goals as goal
 

@@ -1,6 +1,5 @@
-use Rattle.std.proofs.Common.{ℕ, Some, None}
 use Rattle.rl_plan.proofs.Around.{ends_there}
-use Rattle.rl_plan.proofs.Chosen.{chosen_low, chosen_high, none_leads}
+use Rattle.rl_plan.proofs.Chosen.{chosen_low}
 use Rattle.rl_plan.proofs.route.chosen.Goals as goal
 
 pub lowest-requires : goal.lowest-requires

@@ -1,4 +1,3 @@
-use Rattle.std.proofs.Common.{None}
 use Rattle.rl_plan.proofs.Downward.{leads_on}
 use Rattle.rl_plan.proofs.route.next_step.Goals as goal
 

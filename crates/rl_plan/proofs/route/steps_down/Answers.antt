@@ -1,4 +1,4 @@
-use Rattle.std.proofs.Common.{List, [], ◌∷◌, ◌++◌, ◌+◌, sym, subst, arith}
+use Rattle.std.proofs.Common.{List, ◌+◌, sym, subst, arith}
 use Rattle.rl_plan.specs.declared.plan.PlanStep.{PlanStep}
 use Rattle.rl_plan.proofs.Building.{IsBuilt, built_none, built_more, built_all, left_above}
 use Rattle.rl_plan.proofs.route.steps_down.Goals as goal
@@ -20,7 +20,7 @@ loop-k-preserved c =
     subst (λ (xs : List PlanStep). IsBuilt c.args.net.now c.args.levels.now c.args.from.0 c.args.n (c.loop-k.k + 1) c.next_step-step.result.s xs)
     (sym c.in_ok-push.ensures.ok)
     (built_more c.args.net.now c.args.levels.now c.args.from.0 c.args.n c.loop-k.k c.loop-k.s c.loop-k.route c.next_step-step.result c.loop-k-test.true
-        c.loop-k.invariant c.next_step-step.ensures)
+    c.loop-k.invariant c.next_step-step.ensures)
 
 pub returns : goal.returns
 returns c =

@@ -9,8 +9,11 @@ mark_round-more-requires-clause-room c =
 
 pub overflow_add-n : goal.overflow_add-n
 overflow_add-n c =
-    omega (arith, few_rounds c.args.net.now c.args.to.0 c.loop-more.n c.loop-more.more c.loop-more.levels c.accepted.ensures
-        c.loop-more.invariant c.loop-more-test.true)
+    omega (
+      arith,
+      few_rounds c.args.net.now c.args.to.0 c.loop-more.n c.loop-more.more c.loop-more.levels c.accepted.ensures
+          c.loop-more.invariant c.loop-more-test.true,
+    )
 
 pub loop-more-preserved : goal.loop-more-preserved
 loop-more-preserved c =

@@ -1,4 +1,4 @@
-use Rattle.std.proofs.Common.{ℕ, ◌+◌, cond}
+use Rattle.std.proofs.Common.{◌+◌, cond}
 use Rattle.rl_plan.specs.Marking.{unmarked}
 use Rattle.rl_plan.specs.Searching.{IsSearched}
 use Rattle.rl_plan.proofs.search.search.Given as goal
