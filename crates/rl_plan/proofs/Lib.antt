@@ -9,3 +9,5 @@ pub mod Chosen
 pub mod Downward
 pub mod Building
 pub mod Steps
+pub mod Routes
+pub mod RouteRules

@@ -6,3 +6,4 @@ pub mod PlanText
 pub mod Marking
 pub mod Searching
 pub mod Choosing
+pub mod Routes

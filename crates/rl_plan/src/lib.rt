@@ -7,6 +7,7 @@
 #![tactic(auto)]
 
 mod certificate;
+pub mod laws;
 mod least;
 mod marking;
 mod neighbours;
@@ -16,6 +17,7 @@ mod search;
 mod text;
 
 pub use certificate::check_plan;
+pub use laws::plans_are_routes;
 pub use least::least_plan;
 pub use plan::{Levels, Plan, PlanStep, PlanSteps};
 pub use text::plan_text;
