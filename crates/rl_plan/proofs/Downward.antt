@@ -43,7 +43,8 @@ down_is_walk net to levels s [] are down = level_zero net to levels s are down
 down_is_walk net to levels s (step ∷ steps) are down = (down.0.leads.near, down_is_walk net to levels step.s.0 steps are down.1)
 
 -- the level that a segment has is its own
-own : (net : NetworkPlan) (to : SegId) (levels : List (Option ℕ)) (s : ℕ) (o : Option ℕ) → AreLevels net to levels → level_of levels s ≡ o → IsLevel net to.0 s o
+own : (net : NetworkPlan) (to : SegId) (levels : List (Option ℕ)) (s : ℕ) (o : Option ℕ) → AreLevels net to levels → level_of levels s ≡ o
+    → IsLevel net to.0 s o
 own net to levels s (Some n) are is = (
   are.walks s n is,
   λ steps walk.

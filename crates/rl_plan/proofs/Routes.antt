@@ -50,7 +50,7 @@ arm_named d s b i x name sound network box segment arm =
     let there = mapped_item (segment_number d) x.arms i number.0 number.1 in
     let known = sound.arm_names b i there.0 (record { item = x; box = box; arm = there.1 }) in
     let is : known.0 ≡ s =
-    sym (ap (λ (o : Option ℕ). unwrap_or o 0) known.1) ∙ ap (λ (r : SegId). r.0) there.2 ∙ number.2 in
+    sym (ap (λ (o : Option ℕ). unwrap_or o 0) {y = Some known.0} known.1) ∙ ap (λ (r : SegId). r.0) {y = number.0} there.2 ∙ number.2 in
     let placed : slice_get d.segments s ≡ Some there.0 =
     subst (λ (k : ℕ). slice_get d.segments k ≡ Some there.0) is (number_in-item d.segments there.0 known.0 known.1) in
     let same : there.0 ≡ name = same_Some there.0 name (sym placed ∙ segment) in

@@ -101,7 +101,8 @@ few_rounds net to n more levels network so_far on =
     omega arith
 
 -- the same of a search that goes on
-pub next_of : (net : NetworkPlan) (to n : ℕ) (was more : Bool) (old new : List (Option ℕ)) → was ≡ true → IsSearched net to n was old → IsGrown net n more old new
+pub next_of : (net : NetworkPlan) (to n : ℕ) (was more : Bool) (old new : List (Option ℕ)) → was ≡ true → IsSearched net to n was old
+    → IsGrown net n more old new
     → ((s : ℕ) → MarksFrom net n old new s) → IsSearched net to (n + 1) more new
 next_of net to n was more old new on so_far grown marks =
     next_round net to n more old new (subst (λ (x : Bool). IsSearched net to n x old) on so_far) grown marks

@@ -36,7 +36,8 @@ own_level net levels to s (Some n) route rises end is led = (
       let few : least.0 ≤ length steps = least.2 in
       omega arith,
 )
-own_level net levels to s None route rises end is led = λ steps walk. let least = no_shorter net levels to s steps rises end walk in absurd (no_Some least.0 (is ∙ least.1))
+own_level net levels to s None route rises end is led = λ steps walk.
+    let least = no_shorter net levels to s steps rises end walk in absurd (no_Some least.0 (is ∙ least.1))
   where
     no_Some : (m : ℕ) → None ≡ Some m → ⊥
     no_Some m e = cc

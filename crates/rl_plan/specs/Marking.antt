@@ -13,7 +13,8 @@ pub record Grows (net : NetworkPlan) (n : ℕ) (old new : List (Option ℕ)) : T
   pub each : length new ≡ length old
   pub kept : (s m : ℕ) → level_of old s ≡ Some m → level_of new s ≡ Some m
   pub only : (r m : ℕ) → level_of new r ≡ Some m
-      → (level_of old r ≡ Some m) ⊎ ((m ≡ n + 1) × ((b : ℕ) × (s : ℕ) × AreNeighbours net b s r × (level_of old s ≡ Some n)))
+      → (level_of old r ≡ Some m)
+      ⊎ ((m ≡ n + 1) × ((b : ℕ) × (s : ℕ) × AreNeighbours net b s r × (level_of old s ≡ Some n)))
 
 -- whether a level is new: then fewer segments have none, and otherwise all is as before
 abbrev pub Tells : Bool → List (Option ℕ) → List (Option ℕ) → Type 0

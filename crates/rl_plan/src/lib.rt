@@ -1,9 +1,9 @@
 //! Plans: the least number of steps from a segment to another, with a certificate that a reader can trust without
 //! the search.
 //!
-//! It gives upward: `least_plan`, the plan with the fewest steps, the same for the same network; `check_plan`, whether a
-//! plan shows that no walk is shorter; the text of a plan. It knows a network and its names, and nothing of trains
-//! that move.
+//! It gives upward: `least_plan`, the plan with the fewest steps, the same for the same network; `check_plan`, whether
+//! a plan shows that no walk is shorter; `plan_text`, the text of a plan; `plans_are_routes`: a plan of a train's length
+//! is a route that it may have. It knows a network and its names, and nothing of trains that move.
 #![tactic(auto)]
 
 mod certificate;

@@ -22,8 +22,10 @@ fn next_at(
     y: Arm,
 ) -> Option<SegId>
     requires there { IsBoxOf net.now b × IsSegmentOf net.now s }
-    ensures some { IfSome result (λ r. IsNext net.now levels.now b.0 s.0 n r.0 × (segment_at net.now b.0 y.0 ≡ Some r.0)) }
-    ensures none { IfNone result ((r : ℕ) → segment_at net.now b.0 y.0 ≡ Some r → ¬ IsNext net.now levels.now b.0 s.0 n r) }
+    ensures some { IfSome result (λ r. IsNext net.now levels.now b.0 s.0 n r.0
+        × (segment_at net.now b.0 y.0 ≡ Some r.0)) }
+    ensures none { IfNone result ((r : ℕ) → segment_at net.now b.0 y.0 ≡ Some r
+        → ¬ IsNext net.now levels.now b.0 s.0 n r) }
 {
     let r = neighbour_at(net, b, s, y)?;
     match level_of(levels, r) {
