@@ -38,6 +38,13 @@ named_box d b there =
     let h = item_within d.boxes b (subst (λ (n : ℕ). b < n) (length-map d.boxes (box_of d)) there) in
     (h.0, h.1, ap (λ (o : Option SwitchBox). option_map_or (λ (x : SwitchBox). x.name) o []) (item_mapped (box_of d) d.boxes b h.0 h.1))
 
+-- a name whose number is that of segment s is the name of segment s
+name_placed : (d : Draft) (name : List ℕ) (q s : ℕ) (r : SegId) → number_in d.segments name ≡ Some q → segment_number d name ≡ r → r.0 ≡ s
+    → slice_get d.segments s ≡ Some name
+name_placed d name q s r known at is =
+    let same : q ≡ s = sym (ap (λ (o : Option ℕ). unwrap_or o 0) known) ∙ ap (λ (x : SegId). x.0) at ∙ is in
+    subst (λ (k : ℕ). slice_get d.segments k ≡ Some name) same (number_in-item d.segments name q known)
+
 -- the arm of a segment at a box is the one that has its name
 arm_named : (d : Draft) (s b i : ℕ) (x : DraftBox) (name : List ℕ) → IsSound d → IsNetwork (network_of d) → slice_get d.boxes b ≡ Some x
     → slice_get d.segments s ≡ Some name → arm_of (network_of d) s b ≡ Some i → number_in x.arms name ≡ Some i
@@ -49,10 +56,7 @@ arm_named d s b i x name sound network box segment arm =
     let number = map_some (λ (r : SegId). r.0) (slice_get (map (segment_number d) x.arms) i) s (sym read ∙ at) in
     let there = mapped_item (segment_number d) x.arms i number.0 number.1 in
     let known = sound.arm_names b i there.0 (record { item = x; box = box; arm = there.1 }) in
-    let is : known.0 ≡ s =
-    sym (ap (λ (o : Option ℕ). unwrap_or o 0) {y = Some known.0} known.1) ∙ ap (λ (r : SegId). r.0) {y = number.0} there.2 ∙ number.2 in
-    let placed : slice_get d.segments s ≡ Some there.0 =
-    subst (λ (k : ℕ). slice_get d.segments k ≡ Some there.0) is (number_in-item d.segments there.0 known.0 known.1) in
+    let placed = name_placed d there.0 known.0 s number.0 known.1 there.2 number.2 in
     let same : there.0 ≡ name = same_Some there.0 name (sym placed ∙ segment) in
     number_in-place x.arms (sound.arms b x box) name i (subst (λ (w : List ℕ). slice_get x.arms i ≡ Some w) same there.1)
 
