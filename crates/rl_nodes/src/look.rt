@@ -9,7 +9,7 @@ ghost use Rattle.rl_nodes.specs.Looks.{IsLook};
 use rl_base::WordNo;
 use rl_record::Event;
 use rl_rule::{NodeSeat, Rails};
-use rl_steps::{Mind, act, kept_minds};
+use rl_steps::{Mind, act_anywhere, kept_minds};
 use rl_tables::Line;
 use rl_words::payload_of;
 
@@ -43,7 +43,7 @@ pub(crate) fn look_at(
     kept_minds();
     let _lay = line.layout();
     let value = rails.load(seat, w);
-    match act(line, seat.node(), mind, w, payload_of(value)) {
+    match act_anywhere(line, seat.node(), mind, w, payload_of(value)) {
         None => Look::Left(value),
         Some((payload, after)) => Look::Made(rails.step(seat, payload, after), after),
     }
