@@ -52,46 +52,6 @@ step_node tables n w payload mind r is =
     (node_at (layout_of tables) n) r is in
     (node.0, node.1)
 
--- a train, a track and a point machine have no step at a word at which they don't look
-pub train_elsewhere : (tables : Tables) (n w payload : ℕ) (t : TrainId) (x : TrainTable) (m : TrainMind)
-    → ((kind : WordKind) (payload new : ℕ) (after : TrainMind) → train_step x m kind payload ≡ Some (new, after)
-    → KeepsTrain (layout_of tables) x m kind payload new after) → node_at (layout_of tables) n ≡ Some (nodes.Train t) → slice_get tables.trains t.0 ≡ Some x
-    → (option_map (word_number (layout_of tables)) (train_target x m) ≡ Some w → ⊥) → node_step tables n (Train m) w payload ≡ None
-train_elsewhere tables n w payload t x m law at there other =
-    none_unless (node_step tables n (Train m) w payload)
-    (λ (r : ℕ × Mind) (is : node_step tables n (Train m) w payload ≡ Some r).
-    let word = step_word tables n w payload (Train m) r is in
-    let made = from_map (λ (s : ℕ × TrainMind). (s.0, Train s.1)) (train_step x m word.0 payload) r
-    (sym (train_step_at tables n w payload t x m word.0 at there word.1) ∙ is) in
-    let kept = law word.0 payload made.0.0 made.0.1 made.1 in
-    other (ap (option_map (word_number (layout_of tables))) kept.target ∙ ap Some (word_at-some (layout_of tables) w word.0 word.1).1))
-
-pub track_elsewhere : (tables : Tables) (n w payload : ℕ) (t : TrainId) (m : TrackMind)
-    → ((kind : WordKind) (payload new : ℕ) (after : TrackMind) → track_step t m kind payload ≡ Some (new, after)
-    → KeepsTrack (layout_of tables) t m kind payload new after) → node_at (layout_of tables) n ≡ Some (nodes.Track t)
-    → (word_number (layout_of tables) (track_target t m) ≡ w → ⊥) → node_step tables n (Track m) w payload ≡ None
-track_elsewhere tables n w payload t m law at other =
-    none_unless (node_step tables n (Track m) w payload)
-    (λ (r : ℕ × Mind) (is : node_step tables n (Track m) w payload ≡ Some r).
-    let word = step_word tables n w payload (Track m) r is in
-    let made = from_map (λ (s : ℕ × TrackMind). (s.0, Track s.1)) (track_step t m word.0 payload) r
-    (sym (track_step_at tables n w payload t m word.0 at word.1) ∙ is) in
-    let kept = law word.0 payload made.0.0 made.0.1 made.1 in
-    other (ap (word_number (layout_of tables)) (sym kept.target) ∙ (word_at-some (layout_of tables) w word.0 word.1).1))
-
-pub machine_elsewhere : (tables : Tables) (n w payload : ℕ) (b : BoxId) (m : MachineMind)
-    → ((kind : WordKind) (payload new : ℕ) (after : MachineMind) → machine_step b m kind payload ≡ Some (new, after)
-    → KeepsMachine (layout_of tables) b m kind payload new after) → node_at (layout_of tables) n ≡ Some (nodes.Machine b)
-    → (word_number (layout_of tables) (machine_target b) ≡ w → ⊥) → node_step tables n (Machine m) w payload ≡ None
-machine_elsewhere tables n w payload b m law at other =
-    none_unless (node_step tables n (Machine m) w payload)
-    (λ (r : ℕ × Mind) (is : node_step tables n (Machine m) w payload ≡ Some r).
-    let word = step_word tables n w payload (Machine m) r is in
-    let made = from_map (λ (s : ℕ × MachineMind). (s.0, Machine s.1)) (machine_step b m word.0 payload) r
-    (sym (machine_step_at tables n w payload b m word.0 at word.1) ∙ is) in
-    let kept = law word.0 payload made.0.0 made.0.1 made.1 in
-    other (ap (word_number (layout_of tables)) (sym kept.target) ∙ (word_at-some (layout_of tables) w word.0 word.1).1))
-
 -- a box steps on any word of the line as its mind's own call says
 word_there : (lay : Layout) (w : ℕ) → w < word_count lay → (kind : WordKind) × (word_at lay w ≡ Some kind)
 word_there lay w within = by (word_at lay w) refl

@@ -25,7 +25,10 @@ start_drive = record { events = []; scans = λ n. 0 }
 abbrev pub next_place : Tables → ℕ → ℕ
 next_place tables place = (place + 1) % (length tables.trains + 1)
 
--- a box that is ready goes on to its next place
+-- the place after a turn of a node with this mind: a box that is ready goes on to its next one
+abbrev pub scan_after : Tables → Mind → ℕ → ℕ
+scan_after tables mind scan = if is_ready mind then next_place tables scan else scan
+
 abbrev pub scanned : Tables → Drive → ℕ → Mind → ℕ → ℕ
 scanned tables d n mind = if is_ready mind then put d.scans n (next_place tables (d.scans n)) else d.scans
 

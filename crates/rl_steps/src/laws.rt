@@ -14,7 +14,7 @@ ghost use Rattle.rl_steps.specs.Numbers.{node_at, word_at};
 ghost use Rattle.rl_steps.specs.Run.{IsRun, state};
 ghost use Rattle.rl_steps.specs.Sound.{IsMindOf, IsSound};
 ghost use Rattle.rl_steps.specs.State.{start_mind};
-ghost use Rattle.rl_steps.specs.Step.{node_step};
+ghost use Rattle.rl_steps.specs.Step.{node_step, LooksAt};
 
 use rl_box::box_steps;
 use rl_track::{machine_steps, track_steps};
@@ -31,6 +31,19 @@ pub fn numbered()
     ensures word_back { (lay : Layout) (w : ℕ) (kind : WordKind) → word_at lay w ≡ Some kind
         → HasWord lay kind × (word_number lay kind ≡ w) }
 {}
+
+/// A step changes a word at which its node looks.
+pub fn steps_at_targets()
+    ensures { (tables : Tables) (n w payload new : ℕ) (mind after : Mind) → IsLine tables → HasMind tables n mind
+        → node_step tables n mind w payload ≡ Some (new, after) → LooksAt tables n mind w }
+{
+    // What each mind's steps keep to, for the proof.
+    usable_tables();
+    train_steps();
+    track_steps();
+    box_steps();
+    machine_steps();
+}
 
 /// A step changes a word that its node owns, and its payload fits 32 bits.
 pub fn steps_of_owners()

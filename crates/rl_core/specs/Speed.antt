@@ -1,5 +1,5 @@
--- What is kept of a node while its mind stays, so that a turn in which it has no step is a load and a compare.
-use Rattle.std.specs.Prelude.{◌≡◌, ℕ, ◌<◌, Bool, true, false, is_some, List, length, slice_index_or, Some, None}
+-- For speed alone: what is kept of a node while its mind stays, and what a glance by it tells.
+use Rattle.std.specs.Prelude.{◌≡◌, ℕ, ◌<◌, Bool, true, false, is_some, List, length, slice_index_or, Some, None, if◌then◌else◌}
 use Rattle.rl_base.specs.declared.ids.BoxId.{BoxId}
 use Rattle.rl_base.specs.declared.layout.NodeKind.TheVariants as nodes
 use Rattle.rl_base.specs.Layout.{node_count, word_count}
@@ -10,9 +10,16 @@ use Rattle.rl_steps.specs.declared.mind.Mind.{Mind}
 use Rattle.rl_steps.specs.declared.mind.Mind.TheVariants.{Box, Machine}
 use Rattle.rl_steps.specs.Numbers.{node_at}
 use Rattle.rl_steps.specs.Step.{node_step, target_of, is_ready}
-use Rattle.rl_core.specs.declared.watches.Watch.{Watch}
-use Rattle.rl_core.specs.declared.watches.Watch.TheVariants.{At, Scans, Rarely}
-use Rattle.rl_core.specs.declared.watches.Rare.TheVariants.{Closely, Rests, Awaits}
+use Rattle.rl_steps.specs.State.{CoreState}
+use Rattle.rl_steps.specs.Turn.{next_place}
+use Rattle.rl_core.specs.declared.look.Look.{Look}
+use Rattle.rl_core.specs.declared.look.Look.TheVariants as looks
+use Rattle.rl_core.specs.declared.speed.Glance.{Glance}
+use Rattle.rl_core.specs.declared.speed.Glance.TheVariants as glances
+use Rattle.rl_core.specs.declared.speed.Watch.{Watch}
+use Rattle.rl_core.specs.declared.speed.Watch.TheVariants.{At, Scans, Rarely}
+use Rattle.rl_core.specs.declared.speed.Rare.TheVariants.{Closely, Rests, Awaits}
+use Rattle.rl_core.specs.Looks.{IsLook}
 
 -- whatever place it scans, node n looks with this mind at word w, and has no step there while the word is this
 pub record WatchesWord (tables : Tables) (n : ℕ) (mind : Mind) (w was : ℕ) : Type 0 where
@@ -44,3 +51,35 @@ pub record AreWatches (tables : Tables) (minds : List Mind) (watches : List Watc
   pub size : length watches ≡ node_count (layout_of tables)
   pub each : (n : ℕ) → n < node_count (layout_of tables)
       → IsWatch tables n (slice_index_or minds n (Machine record {})) (slice_index_or watches n (Rarely Closely))
+
+-- what is kept of a node that isn't a ready box, by what it saw, and of a ready box
+abbrev pub watch_by : Look → Watch
+watch_by looks.Rests = Rarely Rests
+watch_by (looks.Idles w was) = At w was
+watch_by (looks.Steps w was payload mind) = Rarely Closely
+
+abbrev pub watch_scanning : BoxId → Bool → Watch
+watch_scanning b waits = if waits then Rarely (Awaits b) else Scans b
+
+-- a glance as a look, and whether it is that of a ready box
+abbrev pub look_of : Glance → Look
+look_of glances.Rests = looks.Rests
+look_of (glances.Idles w was) = looks.Idles w was
+look_of (glances.Scans w was next) = looks.Idles w was
+
+abbrev pub ready_of : Glance → Bool
+ready_of glances.Rests = false
+ready_of (glances.Idles w was) = false
+ready_of (glances.Scans w was next) = true
+
+-- the place at which a ready box scans next
+abbrev pub IsNext : Tables → (scan : ℕ) → Glance → Type 0
+IsNext tables scan glances.Rests = Unit {0}
+IsNext tables scan (glances.Idles w was) = Unit {0}
+IsNext tables scan (glances.Scans w was next) = next ≡ next_place tables scan
+
+-- it rests or has no step on what it sees, and is a ready box or isn't
+pub record IsGlance (tables : Tables) (c : CoreState) (n scan : ℕ) (glance : Glance) : Type 0 where
+  pub look : IsLook tables c n scan (look_of glance)
+  pub ready : ready_of glance ≡ is_ready (c.minds n)
+  pub next : IsNext tables scan glance
