@@ -12,7 +12,7 @@ use Rattle.rl_rule.specs.Seats.{walk_of}
 use Rattle.rl_rule.specs.Views.{loaded, stepped, event_by}
 use Rattle.rl_nodes.proofs.look.look_at.Goals as goal
 
--- the answer of `act_anywhere` is that of the node's own mind on the value that was found
+-- the answer of `act` is that of the node's own mind on the value that was found
 acted : (line : Tables) (old new : Walk) (node : NodeNo) (mind : Mind) (w value payload : ℕ) (answer : Option (ℕ × Mind))
     → new ≡ loaded old w value → node ≡ new.node → old.mind ≡ mind → payload ≡ payload_in value
     → answer ≡ node_step line node.0 mind w payload → answer ≡ node_step line old.node.0 old.mind w (payload_in value)
@@ -32,9 +32,8 @@ returns-in-None-clause-look c =
     let line = c.args.line.now in
     let old = walk_of c.args.seat.now in
     let step = acted line old
-    (walk_of c.load-value.new.seat) c.node.result c.args.mind.now c.args.w.0 c.load-value.result c.payload_of.result c.act_anywhere.result
-    c.load-value.ensures.walk
-    c.node.ensures c.requires.mind c.payload_of.ensures c.act_anywhere.ensures in
+    (walk_of c.load-value.new.seat) c.node.result c.args.mind.now c.args.w.0 c.load-value.result c.payload_of.result c.act.result c.load-value.ensures.walk
+    c.node.ensures c.requires.mind c.payload_of.ensures c.act.ensures in
     record {
       finds = record {
         tells = c.load-value.ensures.tells;
@@ -50,9 +49,8 @@ returns-in-Some-clause-look c =
     let line = c.args.line.now in
     let old = walk_of c.args.seat.now in
     let middle = walk_of c.load-value.new.seat in
-    let step = acted line old middle c.node.result c.args.mind.now c.args.w.0 c.load-value.result c.payload_of.result c.act_anywhere.result
-    c.load-value.ensures.walk
-    c.node.ensures c.requires.mind c.payload_of.ensures c.act_anywhere.ensures in
+    let step = acted line old middle c.node.result c.args.mind.now c.args.w.0 c.load-value.result c.payload_of.result c.act.result c.load-value.ensures.walk
+    c.node.ensures c.requires.mind c.payload_of.ensures c.act.ensures in
     let load : Load = record { word = c.args.w; value = c.load-value.result } in
     let made : node_step line old.node.0 old.mind c.args.w.0 (payload_in c.load-value.result) ≡ Some (c.in-Some.payload, c.in-Some.after) =
     sym step ∙ c.in-Some.is in
