@@ -12,7 +12,7 @@ use Rattle.rl_tables.specs.declared.table.Tables.{Tables}
 use Rattle.rl_tables.specs.Starts.{layout_of}
 use Rattle.rl_steps.specs.declared.mind.Mind.{Mind}
 use Rattle.rl_steps.specs.Step.{is_ready}
-use Rattle.rl_steps.specs.State.{put}
+use Rattle.rl_steps.specs.State.{with_value}
 use Rattle.rl_steps.specs.Turn.{Drive, turn_of, answer_of, events_of_target, answer_of_target, target_in, scanned, next_place}
 use Rattle.rl_steps.proofs.Options.{get_set_same, get_set_other}
 use Rattle.rl_core.specs.declared.speed.Glance.{Glance}
@@ -66,7 +66,7 @@ sizes_advanced core n sizes =
 
 -- a box that goes on to its next place
 pub leads_advanced : (core : Core) (drive : Drive) (n : ℕ) → n < node_count (layout_of core.line) → LeadsTo drive core
-    → LeadsTo (record drive { scans = put drive.scans n (next_place core.line (drive.scans n)) }) (advanced core n)
+    → LeadsTo (record drive { scans = with_value drive.scans n (next_place core.line (drive.scans n)) }) (advanced core n)
 leads_advanced core drive n there leads =
     let here : slice_get core.scans n ≡ Some (drive.scans n) = leads.scans n there in
     let at : slice_index_or core.scans n 0 ≡ drive.scans n = get_or_from_slice_get core.scans n (drive.scans n) 0 here in
@@ -83,10 +83,10 @@ leads_advanced core drive n there leads =
       events = leads.events;
     }
   where
-    put_same : (f : ℕ → ℕ) (n v : ℕ) → put f n v n ≡ v
+    put_same : (f : ℕ → ℕ) (n v : ℕ) → with_value f n v n ≡ v
     put_same f n v = grind (arith, nat_tests)
 
-    put_other : (f : ℕ → ℕ) (n v m : ℕ) → (m ≡ n → ⊥) → put f n v m ≡ f m
+    put_other : (f : ℕ → ℕ) (n v m : ℕ) → (m ≡ n → ⊥) → with_value f n v m ≡ f m
     put_other f n v m other = rw (ne_eqb m n other) refl
 
 -- the turn of the definition, by what the node sees
@@ -101,7 +101,10 @@ answer_by core drive n scan look leads same is = rw leads.state (answer_looked c
 
 leads_by : (ready : Bool) (core : Core) (drive : Drive) (n scan : ℕ) (look : Look) → HasSizes core → n < node_count (layout_of core.line)
     → LeadsTo drive core → IsLook core.line (state_of core) n scan look → LeadsTo
-    (record { events = looked core drive.events n look; scans = if ready then put drive.scans n (next_place core.line (drive.scans n)) else drive.scans })
+    (record {
+      events = looked core drive.events n look;
+      scans = if ready then with_value drive.scans n (next_place core.line (drive.scans n)) else drive.scans;
+    })
     (if ready then advanced (after_look core n look) n else after_look core n look)
 leads_by false core drive n scan look sizes there leads is = leads_looked core drive n scan look sizes there leads is
 leads_by true core drive n scan Rests sizes there leads is = leads_advanced core drive n there leads

@@ -1,4 +1,5 @@
 ghost use Rattle.std.specs.Prelude.{◌≡◌, length, ◌+◌, ◌<◌, ◌≤◌, ◌^◌, slice_get, slice_set, slice_index_or, Some, IfOk};
+ghost use Rattle.rl_base.specs.Tries.{AreFewTries};
 ghost use Rattle.rl_base.specs.Layout.{node_count, word_count};
 ghost use Rattle.rl_words.specs.Stamps.{payload_in, stamp_in};
 ghost use Rattle.rl_tables.specs.Starts.{layout_of};
@@ -67,7 +68,7 @@ impl<'a> Core<'a> {
     /// each box at its first scan place.
     pub fn new(alloc: Global, line: &'a Line, tries: u32) -> Result<Core<'a>, NoMemory>
         requires some_tries { 1 ≤ tries }
-        requires few_tries { tries ≤ 1000 }
+        requires few_tries { AreFewTries tries }
         ensures start { IfOk result (LeadsTo start_drive) }
         ensures line { IfOk result (λ core. core.line ≡ line.now) }
         ensures tries { IfOk result (λ core. core.tries ≡ tries) }

@@ -1,8 +1,8 @@
 ghost use Rattle.std.specs.Prelude.{◌≡◌, ◌↔◌, ◌<◌, ◌∷◌, false, Some, None, IsTrue, IfSome};
-ghost use Rattle.rl_steps.specs.Run.{Fits};
+ghost use Rattle.rl_steps.specs.Run.{EventFits};
 ghost use Rattle.rl_steps.specs.Turn.{Drive};
 ghost use Rattle.rl_core.specs.Cores.{state_of, LeadsTo};
-ghost use Rattle.rl_core.specs.Redoing.{Finds, Makes};
+ghost use Rattle.rl_core.specs.Redoing.{Finds, IsMadeBy};
 
 use crate::cores::Core;
 use rl_record::Event;
@@ -22,8 +22,8 @@ impl<'a> Core<'a> {
     /// What the event's node writes, and what it has in mind then, where the event is the one that it makes here.
     fn fitting(&self, e: Event) -> Option<(u32, Mind)>
         requires few { self.now.events < 4294967295 }
-        ensures fits { IfSome result (λ r. Makes self.now e r.0 r.1) }
-        ensures misfits { result ≡ None → Fits self.now.line (state_of self.now) e → ⊥ }
+        ensures fits { IfSome result (λ r. IsMadeBy self.now e r.0 r.1) }
+        ensures misfits { result ≡ None → EventFits self.now.line (state_of self.now) e → ⊥ }
     {
         self.sound();
         if !self.finds(e) {
@@ -43,10 +43,10 @@ impl<'a> Core<'a> {
         }
     }
 
-    /// Makes the event, if it is the one that its node makes on its word here. Scan places stay.
+    /// IsMadeBy the event, if it is the one that its node makes on its word here. Scan places stay.
     pub(crate) fn redo(&mut self, e: Event) -> bool
         requires few { self.old.events < 4294967295 }
-        ensures fits { IsTrue result ↔ Fits self.old.line (state_of self.old) e }
+        ensures fits { IsTrue result ↔ EventFits self.old.line (state_of self.old) e }
         ensures made { IsTrue result → (d : Drive) → LeadsTo d self.old
             → LeadsTo (record d { events = e ∷ d.events }) self.new }
         ensures same { result ≡ false → self.new ≡ self.old }

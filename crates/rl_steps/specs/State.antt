@@ -24,8 +24,8 @@ pub record CoreState : Type 0 where
   pub clocks : ℕ → ℕ
 
 -- the function with the value v at n
-abbrev pub put : {A : Type 0} → (ℕ → A) → ℕ → A → ℕ → A
-put f n v m = if m == n then v else f m
+abbrev pub with_value : {A : Type 0} → (ℕ → A) → ℕ → A → ℕ → A
+with_value f n v m = if m == n then v else f m
 
 -- the mind of each node at the start
 abbrev pub start_mind_of : ℕ → Option NodeKind → Mind
@@ -90,6 +90,6 @@ abbrev pub after : Tables → CoreState → Event → CoreState
 after tables c e =
     record {
       words = slice_set c.words e.word.0 e.now;
-      minds = put c.minds e.node.0 (mind_after tables c e);
-      clocks = put c.clocks e.node.0 e.stamp;
+      minds = with_value c.minds e.node.0 (mind_after tables c e);
+      clocks = with_value c.clocks e.node.0 e.stamp;
     }

@@ -9,7 +9,7 @@ use Rattle.rl_tables.specs.declared.table.Tables.{Tables}
 use Rattle.rl_tables.specs.Starts.{layout_of}
 use Rattle.rl_steps.specs.declared.mind.Mind.{Mind}
 use Rattle.rl_steps.specs.Numbers.{node_at}
-use Rattle.rl_steps.specs.State.{CoreState, event_of, put}
+use Rattle.rl_steps.specs.State.{CoreState, event_of, with_value}
 use Rattle.rl_steps.specs.Run.{state}
 use Rattle.rl_steps.specs.Step.{target_of, is_ready}
 
@@ -30,7 +30,7 @@ abbrev pub scan_after : Tables → Mind → ℕ → ℕ
 scan_after tables mind scan = if is_ready mind then next_place tables scan else scan
 
 abbrev pub scanned : Tables → Drive → ℕ → Mind → ℕ → ℕ
-scanned tables d n mind = if is_ready mind then put d.scans n (next_place tables (d.scans n)) else d.scans
+scanned tables d n mind = if is_ready mind then with_value d.scans n (next_place tables (d.scans n)) else d.scans
 
 -- what a node that looks at word w comes to
 abbrev pub answer_at : CoreState → ℕ → Option Event → Turn

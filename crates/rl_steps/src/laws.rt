@@ -1,4 +1,5 @@
 ghost use Rattle.std.specs.Prelude.{◌≡◌, ℕ, ◌^◌, ◌<◌, ◌≤◌, List, length, Some};
+ghost use Rattle.rl_base.specs.Tries.{AreFewTries};
 ghost use Rattle.rl_base.specs.declared.layout.Layout.{Layout};
 ghost use Rattle.rl_base.specs.declared.layout.NodeKind.{NodeKind};
 ghost use Rattle.rl_base.specs.declared.layout.WordKind.{WordKind};
@@ -61,7 +62,7 @@ pub fn steps_of_owners()
 
 /// The state after every run has its words, stamps and clocks in range, and well-formed minds.
 pub fn sound_runs()
-    ensures { (tables : Tables) (tries : ℕ) (events : List Event) → IsLine tables → tries ≤ 1000
+    ensures { (tables : Tables) (tries : ℕ) (events : List Event) → IsLine tables → AreFewTries tries
         → length events < 2 ^ 32 → IsRun tables tries events
         → IsSound tables (length events) (state tables tries events) }
 {
@@ -75,7 +76,7 @@ pub fn sound_runs()
 
 /// Every node begins with a well-formed mind of its kind, and every step leaves it one.
 pub fn kept_minds()
-    ensures start { (tables : Tables) (tries n : ℕ) → tries ≤ 1000 → HasMind tables n (start_mind tables tries n) }
+    ensures start { (tables : Tables) (tries n : ℕ) → AreFewTries tries → HasMind tables n (start_mind tables tries n) }
     ensures step { (tables : Tables) (n w payload new : ℕ) (mind after : Mind) → IsLine tables → HasMind tables n mind
         → node_step tables n mind w payload ≡ Some (new, after) → HasMind tables n after }
 {
