@@ -1,8 +1,7 @@
 -- The step of a node on any word: none but at the words at which it looks, and there what its mind's own call answers.
-use Rattle.std.proofs.Common.{◌≡◌, ℕ, ◌<◌, Option, Some, None, option_map, option_and_then, slice_get, refl, sym, ap, ◌∙◌, arith}
+use Rattle.std.proofs.Common.{◌≡◌, ℕ, ◌<◌, Option, Some, None, option_and_then, slice_get, refl, sym, ap, ◌∙◌, arith}
 use Rattle.std.proofs.lemmas.Bool.Decides.{nat_tests}
 use Rattle.rl_base.specs.declared.ids.BoxId.{BoxId}
-use Rattle.rl_base.specs.declared.ids.TrainId.{TrainId}
 use Rattle.rl_base.specs.declared.layout.Layout.{Layout}
 use Rattle.rl_base.specs.declared.layout.NodeKind.{NodeKind}
 use Rattle.rl_base.specs.declared.layout.NodeKind.TheVariants as nodes
@@ -10,25 +9,16 @@ use Rattle.rl_base.specs.declared.layout.WordKind.{WordKind}
 use Rattle.rl_base.specs.Layout.{word_count, word_number, HasWord}
 use Rattle.rl_tables.specs.declared.table.Tables.{Tables}
 use Rattle.rl_tables.specs.declared.table.BoxTable.{BoxTable}
-use Rattle.rl_tables.specs.declared.table.TrainTable.{TrainTable}
 use Rattle.rl_tables.specs.Starts.{layout_of}
-use Rattle.rl_train.specs.declared.mind.TrainMind.{TrainMind}
-use Rattle.rl_train.specs.Kept.{KeepsTrain}
-use Rattle.rl_train.specs.Steps.{train_step, train_target}
 use Rattle.rl_box.specs.declared.mind.BoxMind.{BoxMind}
 use Rattle.rl_box.specs.Steps.{box_step}
-use Rattle.rl_track.specs.declared.track.TrackMind.{TrackMind}
-use Rattle.rl_track.specs.declared.machine.MachineMind.{MachineMind}
-use Rattle.rl_track.specs.Kept.{KeepsTrack, KeepsMachine}
-use Rattle.rl_track.specs.Track.{track_step, track_target}
-use Rattle.rl_track.specs.Machine.{machine_step, machine_target}
 use Rattle.rl_steps.specs.declared.mind.Mind.{Mind}
-use Rattle.rl_steps.specs.declared.mind.Mind.TheVariants.{Train, Track, Box, Machine}
+use Rattle.rl_steps.specs.declared.mind.Mind.TheVariants.{Box}
 use Rattle.rl_steps.specs.Numbers.{node_at, word_at}
 use Rattle.rl_steps.specs.Step.{node_step, step_of, as_mind}
 use Rattle.rl_steps.proofs.Numbering.{word_at-some}
-use Rattle.rl_steps.proofs.Options.{from_map, from_then}
-use Rattle.rl_steps.proofs.ByKind.{train_step_at, track_step_at, box_step_at, machine_step_at}
+use Rattle.rl_steps.proofs.Options.{from_then}
+use Rattle.rl_steps.proofs.ByKind.{box_step_at}
 
 none_unless : {A : Type 0} (o : Option A) → ((a : A) → o ≡ Some a → ⊥) → o ≡ None
 none_unless None h = refl

@@ -1,11 +1,11 @@
 -- An event that fits, taken apart: the word before it, its node's step, its stamp and the word after it.
-use Rattle.std.proofs.Common.{◌≡◌, ℕ, Option, Some, None, option_map, option_and_then, slice_get, refl, sym, ap, ◌∙◌, arith}
+use Rattle.std.proofs.Common.{◌≡◌, ℕ, Some, option_map, slice_get, refl, sym, ap}
 use Rattle.rl_record.specs.declared.event.Event.{Event}
 use Rattle.rl_words.specs.Stamps.{payload_in, stamped}
 use Rattle.rl_tables.specs.declared.table.Tables.{Tables}
 use Rattle.rl_steps.specs.declared.mind.Mind.{Mind}
 use Rattle.rl_steps.specs.Step.{node_step}
-use Rattle.rl_steps.specs.State.{CoreState, event_of, event_at, next_stamp, mind_after}
+use Rattle.rl_steps.specs.State.{CoreState, event_at, next_stamp, mind_after}
 use Rattle.rl_steps.specs.Run.{EventFits}
 use Rattle.rl_steps.proofs.Options.{from_map, from_then}
 

@@ -1,5 +1,5 @@
 -- The state after every run is sound.
-use Rattle.std.proofs.Common.{◌≡◌, ℕ, zero, suc, ◌+◌, ◌*◌, ◌^◌, ◌/◌, ◌%◌, ◌<◌, ◌≤◌, ◌==◌, max, List, [], ◌∷◌, length, slice_get, slice_set, Option, Some, None, option_and_then, refl, sym, ap, ◌∙◌, subst, inl, inr, true, false, arith}
+use Rattle.std.proofs.Common.{◌≡◌, ℕ, suc, ◌+◌, ◌*◌, ◌^◌, ◌/◌, ◌%◌, ◌<◌, ◌≤◌, max, List, [], ◌∷◌, length, slice_get, slice_set, Some, refl, sym, ◌∙◌, inl, inr, arith}
 use Rattle.std.proofs.lemmas.Bool.{cases_eq, ne_eqb}
 use Rattle.std.proofs.lemmas.Bool.Decides.{nat_tests}
 use Rattle.std.proofs.lemmas.List.{length-set}
@@ -11,15 +11,13 @@ use Rattle.rl_words.specs.Stamps.{stamp_in, payload_in, stamped}
 use Rattle.rl_tables.specs.declared.table.Tables.{Tables}
 use Rattle.rl_tables.specs.Kept.{IsLine}
 use Rattle.rl_tables.specs.Starts.{layout_of}
-use Rattle.rl_steps.specs.declared.mind.Mind.{Mind}
-use Rattle.rl_steps.specs.Numbers.{node_at, word_at}
-use Rattle.rl_steps.specs.Step.{node_step, step_of}
-use Rattle.rl_steps.specs.State.{CoreState, start, start_word, start_mind, start_words, next_stamp, after, mind_after, with_value}
+use Rattle.rl_steps.specs.Numbers.{node_at}
+use Rattle.rl_steps.specs.State.{CoreState, start, start_word, start_words, after, mind_after, with_value}
 use Rattle.rl_steps.specs.Run.{EventFits, IsRun, state}
 use Rattle.rl_steps.specs.Sound.{IsMindOf, IsSound}
 use Rattle.rl_steps.proofs.Beginning.{start_fits, start_minds}
 use Rattle.rl_steps.proofs.Made.{IsMade, fits_made}
-use Rattle.rl_steps.proofs.Keeping.{StepsKeep, KeepsTo, step_keeps}
+use Rattle.rl_steps.proofs.Keeping.{StepsKeep, step_keeps}
 use Rattle.rl_steps.proofs.Options.{same_some, get_set_same, get_set_other}
 use Rattle.rl_steps.proofs.Starts.{start_words-length, start_words-get}
 

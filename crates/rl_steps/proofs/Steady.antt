@@ -1,9 +1,8 @@
 -- A node that isn't a ready box looks at one word, wherever it scans, and has a step there alone.
-use Rattle.std.proofs.Common.{◌≡◌, ℕ, Bool, false, Option, Some, None, option_map, option_and_then, slice_get, refl, sym, ap, ◌∙◌}
+use Rattle.std.proofs.Common.{◌≡◌, ℕ, false, Option, Some, None, option_map, option_and_then, slice_get, refl, ap, ◌∙◌}
 use Rattle.rl_base.specs.declared.layout.Layout.{Layout}
 use Rattle.rl_base.specs.declared.layout.NodeKind.{NodeKind}
 use Rattle.rl_base.specs.declared.layout.NodeKind.TheVariants as nodes
-use Rattle.rl_base.specs.declared.layout.WordKind.{WordKind}
 use Rattle.rl_base.specs.Layout.{word_number}
 use Rattle.rl_tables.specs.declared.table.Tables.{Tables}
 use Rattle.rl_tables.specs.declared.table.BoxTable.{BoxTable}
@@ -16,7 +15,6 @@ use Rattle.rl_steps.specs.declared.mind.Mind.{Mind}
 use Rattle.rl_steps.specs.declared.mind.Mind.TheVariants.{Train, Track, Box, Machine}
 use Rattle.rl_steps.specs.Numbers.{node_at}
 use Rattle.rl_steps.specs.Step.{node_step, target_kind, target_of, has_nothing, is_ready, LooksAt}
-use Rattle.rl_steps.proofs.Options.{same_some}
 
 steady_work : (lay : Layout) (x : BoxTable) (work : Work) (one other : ℕ) → has_nothing work ≡ false → work_target lay x work one ≡ work_target lay x work other
 steady_work lay x Ready one other is = absurd (cc)

@@ -1,5 +1,5 @@
 -- The state of a core: every word, and the mind and the clock of every node; the event that a node makes of it.
-use Rattle.std.specs.Prelude.{ℕ, zero, suc, ◌==◌, max, List, [], ◌∷◌, ◌++◌, slice_get, slice_set, Option, Some, None, option_map, option_and_then, if◌then◌else◌}
+use Rattle.std.specs.Prelude.{ℕ, zero, suc, ◌==◌, max, List, [], ◌∷◌, ◌++◌, slice_get, slice_set, Option, Some, option_map, option_and_then, if◌then◌else◌}
 use Rattle.std.specs.Option.{option_map_or}
 use Rattle.rl_base.specs.declared.layout.NodeKind.{NodeKind}
 use Rattle.rl_base.specs.declared.layout.NodeKind.TheVariants as nodes
@@ -11,7 +11,6 @@ use Rattle.rl_tables.specs.Starts.{layout_of, start_payload}
 use Rattle.rl_train.specs.Mind.{start_train}
 use Rattle.rl_box.specs.Mind.{start_box}
 use Rattle.rl_track.specs.Track.{start_track}
-use Rattle.rl_track.specs.declared.machine.MachineMind.{MachineMind}
 use Rattle.rl_steps.specs.declared.mind.Mind.{Mind}
 use Rattle.rl_steps.specs.declared.mind.Mind.TheVariants.{Train, Track, Box, Machine}
 use Rattle.rl_steps.specs.Numbers.{node_at, word_at}

@@ -1,14 +1,10 @@
 -- Turns: a node looks at its target and makes the event there, if it has one. A ready box goes round its scan places.
-use Rattle.std.specs.Prelude.{ℕ, ◌+◌, ◌%◌, Bool, false, List, [], ◌∷◌, fold, length, slice_index_or, Option, Some, None, if◌then◌else◌}
-use Rattle.rl_base.specs.declared.layout.NodeKind.{NodeKind}
-use Rattle.rl_base.specs.declared.layout.NodeKind.TheVariants as nodes
+use Rattle.std.specs.Prelude.{ℕ, ◌+◌, ◌%◌, List, [], ◌∷◌, fold, length, slice_index_or, Option, Some, None, if◌then◌else◌}
 use Rattle.rl_record.specs.declared.event.Event.{Event}
 use Rattle.rl_record.specs.declared.event.Turn.{Turn}
 use Rattle.rl_record.specs.declared.event.Turn.TheVariants.{Moved, Idle, Rest}
 use Rattle.rl_tables.specs.declared.table.Tables.{Tables}
-use Rattle.rl_tables.specs.Starts.{layout_of}
 use Rattle.rl_steps.specs.declared.mind.Mind.{Mind}
-use Rattle.rl_steps.specs.Numbers.{node_at}
 use Rattle.rl_steps.specs.State.{CoreState, event_of, with_value}
 use Rattle.rl_steps.specs.Run.{state}
 use Rattle.rl_steps.specs.Step.{target_of, is_ready}

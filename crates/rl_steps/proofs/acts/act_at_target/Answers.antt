@@ -1,8 +1,7 @@
-use Rattle.std.proofs.Common.{◌≡◌, ℕ, Some, None, option_map, ap, ◌∙◌, sym, arith}
+use Rattle.std.proofs.Common.{◌≡◌, Some, None, option_map, ap, ◌∙◌, sym, arith}
 use Rattle.std.proofs.lemmas.Bool.Decides.{nat_tests}
 use Rattle.rl_base.specs.declared.ids.WordNo.{WordNo}
-use Rattle.rl_steps.specs.declared.mind.Mind.{Mind}
-use Rattle.rl_steps.specs.Step.{node_step, target_of, LooksAt}
+use Rattle.rl_steps.specs.Step.{target_of}
 use Rattle.rl_steps.proofs.Steady.{elsewhere}
 use Rattle.rl_steps.proofs.acts.act_at_target.Goals as goal
 

@@ -1,6 +1,5 @@
-use Rattle.std.proofs.Common.{◌≡◌, ap, sym, length, arith}
+use Rattle.std.proofs.Common.{◌≡◌, ap, length, arith}
 use Rattle.rl_base.specs.declared.layout.Layout.{Layout}
-use Rattle.rl_tables.specs.Starts.{layout_of}
 use Rattle.rl_steps.proofs.Finding.{train_here, track_here, box_here, machine_here}
 use Rattle.rl_steps.proofs.who.identify.Goals as goal
 
