@@ -27,7 +27,9 @@ class Chart {
             if (rows === "segments") [0, 1].forEach(end => set(2 * train.start + end, train.start, end, t, 0));
         });
         for (let i = 0; i < run.moves.length; i++) {
-            const { verb, train, box, segments: [s, s2], by } = run.moves.at(i);
+            const verb = run.moves.verb(i);
+            if (!["reserve", "release", "enter", "leave", "refuse", "bar"].includes(verb)) continue;
+            const { train, box, segments: [s], by } = run.moves.at(i);
             if (by !== NONE) ticks.push({ at: i + 1, row: rows === "trains" ? train : s ?? net.boxes[box].arms[0] });
             if (rows === "segments" && (verb === "reserve" || verb === "release")) {
                 const end = play.endAt(s, box);
@@ -69,7 +71,13 @@ class Chart {
             pen.fillRect(x(from), top, Math.max(0.5, (to - from) * this.step), half === 2 ? 8 : 4);
         }
         pen.fillStyle = colour("--alarm");
-        for (const { at, row } of ticks) pen.fillRect(x(at) - 0.5, row * CHART_ROW, 1.2, CHART_ROW - 2);
+        const seen = new Set();
+        for (const { at, row } of ticks) {
+            const left = Math.round(x(at) * 2) / 2;
+            const key = row * 100000 + left * 2;
+            if (!seen.has(key)) pen.fillRect(left - 0.5, row * CHART_ROW, 1.2, CHART_ROW - 2);
+            seen.add(key);
+        }
         this.drawn = { stretches: found.length, ticks: ticks.length };
     }
 

@@ -17,6 +17,7 @@ const MOVES = {
 };
 
 const VERBS = Object.keys(MOVES);
+const FORMS = Object.fromEntries(VERBS.map(verb => [verb, MOVES[verb].split(" ")]));
 const NONE = -1;
 const REPORT_HEAD = 2;  // the lines of a report before its first move
 
@@ -198,9 +199,15 @@ class Moves {
             longer.set(this.data);
             this.data = longer;
         }
-        const { verb, train, box, segments: [s = NONE, s2 = NONE], by, right } = move;
-        const last = verb === "settle" ? Number(right) : by;
-        this.data.set([VERBS.indexOf(verb), train, box, s, s2, last], 6 * this.length++);
+        const { verb, train, box, segments, by, right } = move;
+        const { data } = this;
+        const i = 6 * this.length++;
+        data[i] = VERBS.indexOf(verb);
+        data[i + 1] = train;
+        data[i + 2] = box;
+        data[i + 3] = segments.length > 0 ? segments[0] : NONE;
+        data[i + 4] = segments.length > 1 ? segments[1] : NONE;
+        data[i + 5] = verb === "settle" ? Number(right) : by;
     }
 
     verb(i) {
@@ -213,12 +220,13 @@ class Moves {
 
     at(i) {
         if (i < 0 || i >= this.length) return undefined;
-        const [verb, train, box, s, s2, last] = this.data.subarray(6 * i, 6 * i + 6);
-        const settles = VERBS[verb] === "settle";
-        return {
-            verb: VERBS[verb], train, box, segments: [s, s2].filter(segment => segment !== NONE),
-            by: settles ? NONE : last, right: settles && last === 1,
-        };
+        const { data } = this;
+        const at = 6 * i;
+        const verb = VERBS[data[at]], s = data[at + 3], s2 = data[at + 4], last = data[at + 5];
+        const segments = s === NONE ? [] : s2 === NONE ? [s] : [s, s2];
+        const settles = verb === "settle";
+        return { verb, train: data[at + 1], box: data[at + 2], segments, by: settles ? NONE : last,
+            right: settles && last === 1 };
     }
 }
 
@@ -261,18 +269,18 @@ function readReport(text, net) {
 
     function readMove() {
         const verb = words[0];
-        const form = MOVES[verb].split(" ");
+        const form = FORMS[verb];
         if (words.length !== form.length + 1) lines.fail(`"${verb} ${MOVES[verb]}"`);
         const move = { verb, train: NONE, box: NONE, segments: [], by: NONE, right: false };
-        form.forEach((role, i) => {
-            const word = words[i + 1];
+        for (let i = 0; i < form.length; i++) {
+            const role = form[i], word = words[i + 1];
             if (role === "TRAIN" && i === 0) move.train = numberOf(net.trainNumber, word, "train");
             else if (role === "TRAIN") move.by = numberOf(net.trainNumber, word, "train");
             else if (role === "BOX") move.box = numberOf(net.boxNumber, word, "box");
             else if (role === "SEGMENT") move.segments.push(numberOf(net.segmentNumber, word, "segment"));
             else if (word === "left" || word === "right") move.right = word === "right";
             else lines.fail(`left or right in place of ${word}`);
-        });
+        }
         if (move.box !== NONE) move.segments.forEach(segment => endsThere(segment, move.box));
         if (move.segments.length === 2 && move.segments[0] === move.segments[1]) lines.fail("two different segments");
         return move;
@@ -284,8 +292,9 @@ function readReport(text, net) {
     }
 
     function numberOf(numbers, word, what) {
-        if (!numbers.has(word)) lines.fail(`a ${what} of the network in place of ${word.slice(0, 20)}`);
-        return numbers.get(word);
+        const number = numbers.get(word);
+        if (number === undefined) lines.fail(`a ${what} of the network in place of ${word.slice(0, 20)}`);
+        return number;
     }
 }
 

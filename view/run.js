@@ -144,6 +144,10 @@ class Play {
         this.state[index] = value;
     }
 
+    setThree(index, ...values) {
+        for (let i = 0; i < 3; i++) this.set(index + i, values[i]);
+    }
+
     apply(move, number) {
         const { train, box, segments: [s, s2] } = move;
         const of = this.trains + OF_TRAIN * train;
@@ -158,11 +162,11 @@ class Play {
             if (this.state[this.endAt(s, box)] === train) this.set(this.endAt(s, box), NONE);
             break;
         case "lock":
-            [train, s, s2].forEach((value, i) => this.set(lock + i, value));
+            this.setThree(lock, train, s, s2);
             this.got(move, "bar", of);
             break;
         case "unlock":
-            [0, 1, 2].forEach(i => this.set(lock + i, NONE));
+            this.setThree(lock, NONE, NONE, NONE);
             break;
         case "throw":
             this.set(this.points + box, MOVING);
@@ -171,7 +175,7 @@ class Play {
             this.set(this.points + box, move.right ? 1 : 0);
             break;
         case "enter":
-            [s, s2, box].forEach((value, i) => this.set(of + ON + i, value));
+            this.setThree(of + ON, s, s2, box);
             this.set(of + WAIT, NONE);
             break;
         case "leave":

@@ -16,12 +16,14 @@ let browser;
 let passed = 0, failed = 0;
 
 async function test(name, act) {
+    const begun = Date.now();
     try {
         await act();
         const thrown = browser.events.filter(event => event.method === "Runtime.exceptionThrown"
             || event.method === "Log.entryAdded" && event.params.entry.level === "error");
         assert.deepEqual(thrown.map(event => JSON.stringify(event.params).slice(0, 400)), [], "the page threw");
         passed++;
+        if (process.env.TIMES) console.log(`${Date.now() - begun} ms ${name}`);
     } catch (error) {
         failed++;
         console.log(`view/test: failed: ${name}: ${error.message.slice(0, 1500)}`);
@@ -849,27 +851,48 @@ async function testFaults() {
     }
 }
 
+// A report of 100,000 moves: those of a run again and again. It is no run, but costs what one costs.
+function longReport(name) {
+    const lines = read("pages", name + ".report").split("\n");
+    const moves = lines.slice(2).filter(line => !/^(train|end|$)/.test(line));
+    const all = Array.from({ length: 100000 }, (_, i) => moves[i % moves.length]);
+    return [...lines.slice(0, 2), ...all, ...lines.filter(line => /^(train|end)/.test(line)), ""].join("\n");
+}
+
 async function testSpeed(name) {
-    await test("many moves of many trains are there soon, and step quickly", async () => {
-        await browser.visit(page(name));
-        const { there, step, jump } = await browser.run(() => {
+    await test("100,000 moves are there soon, step quickly and take little memory", async () => {
+        const html = fs.readFileSync(page(name), "utf8");
+        const long = html.replace(/(id="report">)[^<]*/, (_, tag) => tag + longReport(name));
+        fs.writeFileSync(path.join(folder, "long.html"), long);
+        await browser.send("Performance.enable");
+        const busy = async () => {
+            const { metrics } = await browser.send("Performance.getMetrics");
+            return name => metrics.find(metric => metric.name === name).value;
+        };
+        const idle = await busy();
+        await browser.visit(path.join(folder, "long.html"));
+        const load = await busy();
+        const there = await browser.run(() => performance.getEntriesByType("navigation")[0].loadEventEnd);
+        const parts = ["ScriptDuration", "LayoutDuration", "RecalcStyleDuration"];
+        const between = (from, to) => 1000 * parts.reduce((sum, part) => sum + to(part) - from(part), 0);
+        const taken = between(idle, load);
+        const before = await busy();
+        await browser.run(async () => {
             const slider = document.getElementById("slider");
-            const go = move => {
+            const frame = () => new Promise(resolve => requestAnimationFrame(resolve));
+            for (let move = 1; move <= 100; move++) {
                 slider.value = move;
                 slider.dispatchEvent(new Event("input"));
-                document.getElementById("picture").getBoundingClientRect();
-            };
-            let begun = performance.now();
-            for (let move = 1; move <= 200; move++) go(move);
-            const step = (performance.now() - begun) / 200;
-            begun = performance.now();
-            for (let i = 0; i < 10; i++) go(i % 2 ? 0 : Number(slider.max));
-            const [navigation] = performance.getEntriesByType("navigation");
-            return { there: navigation.loadEventEnd, step, jump: (performance.now() - begun) / 10 };
+                await frame();
+            }
         });
-        console.log(`view/test: ${name} is there after ${there.toFixed(0)} ms, a step takes ${step.toFixed(1)} ms,`
-            + ` a jump over all moves ${jump.toFixed(0)} ms`);
-        assert.ok(there < 5000 && step < 100 && jump < 1000);
+        const after = await busy();
+        const step = between(before, after) / 100;
+        await browser.send("HeapProfiler.collectGarbage");
+        const heap = (await browser.send("Runtime.getHeapUsage")).usedSize / 1e6;
+        console.log(`view/test: 100,000 moves on ${name}: there after ${there.toFixed(0)} ms, ${taken.toFixed(0)} ms of`
+            + ` script and layout; a step takes ${step.toFixed(1)} ms of both; the heap has ${heap.toFixed(1)} MB`);
+        assert.ok(there < 8000 && step < 60 && heap < 20);
     });
 }
 
@@ -879,7 +902,7 @@ async function main() {
     await browser.size(1280, 900);
     const names = listed("pages", ".html");
     for (const name of names) await testNetwork(name);
-    await testPlay("ring-of-4");
+    await testPlay("terminus");
     await testVerdict();
     await testLarge("ring-of-32");
     await testChoice();
@@ -899,7 +922,7 @@ const limit = setTimeout(() => {
     console.log("view/test: failed: the browser's tests took too long");
     console.log(`${passed} passed, ${failed + 1} failed`);
     process.exit(1);
-}, 90000);
+}, 300000);
 main().then(() => clearTimeout(limit), error => {
     console.log(`view/test: failed: ${error.stack}`);
     console.log(`${passed} passed, ${failed + 1} failed`);
