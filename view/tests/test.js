@@ -12,6 +12,7 @@ const read = (...parts) => fs.readFileSync(path.join(folder, ...parts), "utf8");
 const listed = (kind, end) => fs.readdirSync(path.join(folder, kind)).filter(file => file.endsWith(end)).sort()
     .map(file => file.slice(0, -end.length));
 const page = name => path.join(folder, "pages", name + ".html");
+const few = Boolean(process.env.VIEW_FEW);
 let browser;
 let passed = 0, failed = 0;
 
@@ -27,6 +28,7 @@ async function test(name, act) {
     } catch (error) {
         failed++;
         console.log(`view/test: failed: ${name}: ${error.message.slice(0, 1500)}`);
+        if (few) throw new Error("ended at the first failure");
     }
 }
 
@@ -498,7 +500,7 @@ const changed = (selector, value) => {
 
 async function testPlay(name) {
     await test("Play plays from thirty fresh loads, also where a frame's time lies before the clock's", async () => {
-        for (let i = 0; i < 30; i++) {
+        for (let i = 0; i < (few ? 4 : 30); i++) {
             await browser.visit(page(name));
             await browser.run(early => {
                 const now = performance.now.bind(performance);
@@ -674,11 +676,12 @@ async function testChoice() {
         const asks = page => report.slice(0, move).filter(line => line.startsWith(`refuse ${page} `)).length;
         assert.ok(tries.every((count, i) => count >= asks("Tram" + (i + 1))), String(tries));
     });
-    await test("what is before the page in the chart is what is clicked", async () => {
+    await test("a click on the chart goes to the move that is drawn there", async () => {
         await browser.visit(page("terminus"));
+        await browser.run(() => document.querySelector("#chart canvas").scrollIntoView({ block: "center" }));
+        await browser.run(wait, 400);
         const { top, ticks, x } = await browser.run(() => {
             const canvas = document.querySelector("#chart canvas");
-            canvas.scrollIntoView({ block: "center" });
             const { left, top } = canvas.getBoundingClientRect();
             return { top, ticks: page.chart.drawn.ticks, x: left + page.chart.placeOf(63) };
         });
