@@ -1,6 +1,6 @@
 "use strict";
-// Draws the network and the state of a play as SVG. Places are those of the layout; what is drawn there keeps its size on
-// the screen, so every length is one on the screen times `u`, the layout's unit for a pixel of the screen.
+// Draws the network and the state of a play as SVG. Places are those of the layout; what is drawn there keeps its size
+// on the screen, so every length is one on the screen times `u`, the layout's unit for a pixel of the screen.
 
 const TRIM = 18;        // a branch of a point begins so far from the point; the blade bridges it
 const HELD = 30;        // so much of an end is coloured
@@ -110,8 +110,7 @@ function meetings(way, other, same) {
             if (Math.abs(level) < 1e-6) continue;
             const t = ((r[0] - p[0]) * (s[1] - r[1]) - (r[1] - p[1]) * (s[0] - r[0])) / level;
             const v = ((r[0] - p[0]) * (q[1] - p[1]) - (r[1] - p[1]) * (q[0] - p[0])) / level;
-            const ends = [r, s].some(e => [way[0], way[way.length - 1]].some(w => Math.hypot(e[0] - w[0], e[1] - w[1]) < 1));
-            if (t >= 0 && t < 1 && v >= 0 && v < 1 && !(ends && (t * length < 1 || t > 0.999))) found.push(sum + t * length);
+            if (t >= 0 && t < 1 && v >= 0 && v < 1) found.push(sum + t * length);
         }
         sum += length;
     }
@@ -148,7 +147,8 @@ class Picture {
         this.drawn = layOut(net, this.room());
         if (flip) mirrored(this.drawn);
         this.layers = {};
-        for (const name of ["under", "rails", "holds", "bridges", "boxes", "trains", "jams", "labels", "tags", "marks"]) {
+        const layers = ["under", "rails", "holds", "bridges", "boxes", "trains", "jams", "labels", "tags", "marks"];
+        for (const name of layers) {
             this.layers[name] = make("g", { class: name }, svg);
         }
         this.halo = make("path", { class: "halo" }, this.layers.under);
@@ -375,7 +375,8 @@ class Picture {
                 : near(this.endAt(number, across));
             this.addTag(segment, train, ...place, here.length > 1 && across === NONE ? 0 : 16 * i, "here");
         });
-        const free = holders.map(holder => holder !== NONE && !here.some(t => t === holder && play.train(t).on === number));
+        const isHere = holder => here.includes(holder) && play.train(holder).on === number;
+        const free = holders.map(holder => holder !== NONE && !isHere(holder));
         if (whole && free[0]) this.addTag(segment, holders[0], "middle", middle, 0, "held");
         else if (!whole) {
             free.forEach((is, end) => { if (is) this.addTag(segment, holders[end], ...near(end), 0, "held"); });
@@ -480,12 +481,14 @@ class Picture {
         const { group, parts, head } = this.trains[number];
         const { u } = this;
         const nose = headed ? Math.min(HEAD * u, (to - from) / 2) : 0;
+        [this.trains[number].middle] = cut(way, (from + to) / 2, (from + to) / 2 + 0.1);
         const body = pathOf(cut(way, from, to - nose));
         parts.forEach(part => part.setAttribute("d", body));
-        parts[2].setAttribute("d", pathOf(cut(way, Math.min(from + 5 * u, to - nose), Math.max(from, to - nose - 2 * u))));
-        const front = cut(way, to - nose, to);
-        const tip = front[front.length - 1];
-        head.setAttribute("d", headed ? this.arrow(tip, directionOf(front.slice(-2)), nose + 0.5 * u, 7.5 * u) : "");
+        const [back, front] = [Math.min(from + 5 * u, to - nose), Math.max(from, to - nose - 2 * u)];
+        parts[2].setAttribute("d", pathOf(cut(way, back, front)));
+        const end = cut(way, to - nose, to);
+        const tip = end[end.length - 1];
+        head.setAttribute("d", headed ? this.arrow(tip, directionOf(end.slice(-2)), nose + 0.5 * u, 7.5 * u) : "");
         if (aside) group.setAttribute("transform", `translate(0 ${round(aside)})`);
         else group.removeAttribute("transform");
     }
@@ -630,13 +633,13 @@ class Picture {
         });
         this.boxes.forEach((box, i) => label(box, "box", i));
         this.trains.forEach(train => all.push(...train.labels));
+        const trains = this.trains.map(({ middle: [x, y] }) => [x - 20 * u, y - 8 * u, x + 20 * u, y + 8 * u]);
         const placed = [];
         for (const item of all.sort((a, b) => a.rank - b.rank)) {
             const left = item.x + item.left * u, top = item.y + item.top * u;
             const right = left + item.width * u, bottom = top + item.height * u;
-            const out = placed.some(other => {
-                return other[0] < right && other[2] > left && other[1] < bottom && other[3] > top;
-            });
+            const hits = other => other[0] < right && other[2] > left && other[1] < bottom && other[3] > top;
+            const out = placed.some(hits) || item.rank > 1 && trains.some(hits);
             if (!out) placed.push([left, top, right, bottom]);
             const own = item.of || item;
             if (own.out === out) continue;

@@ -100,9 +100,9 @@ class Page {
         this.hash = location.hash;
         const asked = this.asked();
         this.flipped = asked.flip === "1";
+        const about = verdict ? [count(run.moves.length, "move"), `${run.tries} tries`] : ["no run: drop a report here"];
         byId("summary").textContent = [count(net.segments.length, "segment"), count(net.boxes.length, "box", "boxes"),
-            count(net.trains.length, "train")].concat(verdict ? [count(run.moves.length, "move"), `${run.tries} tries`]
-            : ["no run: drop a report here"]).join(" · ");
+            count(net.trains.length, "train"), ...about].join(" · ");
         byId("slider").max = run.moves.length;
         if ([...byId("speed").options].some(option => option.value === asked.speed)) byId("speed").value = asked.speed;
         this.drawPicture();
@@ -140,7 +140,7 @@ class Page {
         svg.addEventListener("click", event => {
             if (this.view.dragged > 6) return;
             const under = document.elementFromPoint(event.clientX, event.clientY);
-            const { dataset } = under?.closest("#picture [data-train], #picture [data-box], #picture [data-segment]") || {};
+            const { dataset } = svg.contains(under) && under.closest("[data-train], [data-box], [data-segment]") || {};
             if (!dataset) this.choose(null);
             else if (dataset.train && !dataset.segment) this.pick("train", dataset.train);
             else if (dataset.box && !dataset.segment) this.pick("box", dataset.box);
@@ -593,10 +593,10 @@ class Page {
     tellMove(at, move) {
         const told = move ? tell(this.net, move) : "at the start";
         const faulty = this.verdict?.line > 0 && at === this.verdict.line - REPORT_HEAD;
-        byId("caption").replaceChildren(element("span", at ? `${at}. ` : "", "number"),
-            told[0].toUpperCase() + told.slice(1));
+        const says = move && move.train !== NONE ? told : told[0].toUpperCase() + told.slice(1);
+        byId("caption").replaceChildren(element("span", at ? `${at}. ` : "", "number"), says);
         if (faulty) byId("caption").append(element("span", ": this is the line that isn't safe", "waits"));
-        for (const says of this.picture.crashSays) byId("caption").append(element("span", `; ${says}`, "waits"));
+        for (const crash of this.picture.crashSays) byId("caption").append(element("span", `; ${crash}`, "waits"));
         byId("slider").value = at;
         byId("slider").setAttribute("aria-valuetext", `move ${at}: ${told}`);
         byId("place").textContent = `move ${at} of ${this.play.length}`;

@@ -10,7 +10,8 @@ class View {
         this.fingers = new Map();
         this.drawMap();
         this.fit();
-        const observer = new ResizeObserver(() => requestAnimationFrame(() => { if (!signal.aborted) this.resized(); }));
+        const resized = () => { if (!signal.aborted) this.resized(); };
+        const observer = new ResizeObserver(() => requestAnimationFrame(resized));
         observer.observe(svg);
         signal.addEventListener("abort", () => observer.disconnect());
         svg.addEventListener("wheel", event => {
@@ -71,9 +72,10 @@ class View {
     fit() {
         const { wide } = this.size();
         const most = Math.max(240, Math.min(innerHeight * 0.62, 1400));
-        const readable = wide < 700 ? 0.55 : 0.4;
+        const readable = wide < 700 ? 0.7 : 0.4;
         const scale = Math.max(Math.min(wide / this.bounds.width, this.largest()), readable);
-        if (!document.body.classList.contains("full")) this.svg.style.height = Math.max(150, Math.min(most, this.bounds.height * scale)) + "px";
+        const high = Math.max(150, Math.min(most, this.bounds.height * scale));
+        if (!document.body.classList.contains("full")) this.svg.style.height = high + "px";
         this.set(0, 0, wide / Math.max(Math.min(this.fitting(), this.largest()), readable));
         this.centre(true);
     }
@@ -105,8 +107,8 @@ class View {
         const height = width * high / wide;
         const { bounds } = this;
         const within = (at, size, least, whole) => Math.max(least - size / 2, Math.min(least + whole - size / 2, at));
-        this.box = { x: within(x, width, bounds.x, bounds.width), y: within(y, height, bounds.y, bounds.height),
-            width, height };
+        const [left, top] = [within(x, width, bounds.x, bounds.width), within(y, height, bounds.y, bounds.height)];
+        this.box = { x: left, y: top, width, height };
         this.svg.setAttribute("viewBox", [this.box.x, this.box.y, width, height].map(round).join(" "));
         this.rescale();
         this.showCut();

@@ -313,7 +313,7 @@ async function testNetwork(name) {
             const caption = await browser.run(() => document.getElementById("caption").textContent);
             const line = report.split("\n")[move + 1];
             const told = move ? toldOf(line) : "At the start";
-            assert.equal(caption, move ? `${move}. ${told[0].toUpperCase()}${told.slice(1)}` : told);
+            assert.equal(caption, move ? `${move}. ${told}` : told);
         }
         const now = train => document.querySelector(`tr[data-train="${train}"]`).cells[1].textContent;
         for (const line of report.split("\n").filter(line => line.startsWith("train"))) {
