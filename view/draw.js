@@ -218,7 +218,8 @@ class Picture {
     }
 
     addBridge({ over, at }) {
-        const group = make("g", { class: "crossed", "data-segment": this.net.segments[over].name }, this.layers.bridges);
+        const { name } = this.net.segments[over];
+        const group = make("g", { class: "crossed", "data-segment": name }, this.layers.bridges);
         const gap = make("path", { class: "bridge" }, group);
         const rail = make("path", { class: "rail" }, group);
         const hold = make("g", { class: "hold" }, group);
@@ -290,7 +291,8 @@ class Picture {
         this.svg.style.setProperty("--u", scaled(this.u));
         this.boxes.forEach(box => {
             box.size = this.u * Math.min(1, box.space / (50 * this.u));
-            box.group.setAttribute("transform", `translate(${round(box.x)} ${round(box.y)}) scale(${scaled(box.size)})`);
+            const place = `translate(${round(box.x)} ${round(box.y)})`;
+            box.group.setAttribute("transform", `${place} scale(${scaled(box.size)})`);
             this.putLabel(box.label);
         });
         this.segments.forEach((segment, i) => {

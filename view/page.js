@@ -100,7 +100,8 @@ class Page {
         this.hash = location.hash;
         const asked = this.asked();
         this.flipped = asked.flip === "1";
-        const about = verdict ? [count(run.moves.length, "move"), `${run.tries} tries`] : ["no run: drop a report here"];
+        const about = verdict ? [count(run.moves.length, "move"), `${run.tries} tries`]
+            : ["no run: drop a report here"];
         byId("summary").textContent = [count(net.segments.length, "segment"), count(net.boxes.length, "box", "boxes"),
             count(net.trains.length, "train"), ...about].join(" · ");
         byId("slider").max = run.moves.length;

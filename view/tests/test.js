@@ -186,7 +186,8 @@ function misdrawn(arms, steps) {
     for (const train of all(".trains > g")) {
         const on = train.dataset.on.split(" ").flatMap(segment => way[segment]);
         const bar = train.querySelector(".bar");
-        if (points(bar).some(p => near(p, on) > 6 * u)) found.push(`${train.dataset.train} isn't on ${train.dataset.on}`);
+        const off = points(bar).some(p => near(p, on) > 6 * u);
+        if (off) found.push(`${train.dataset.train} isn't on ${train.dataset.on}`);
         if (getComputedStyle(bar).stroke !== colour[train.dataset.train]) found.push(`${train.dataset.train}'s colour`);
         const across = train.dataset.on.includes(" ");
         const atBox = points(bar).some(p => near(p, Object.values(centre)) < (across ? 6 * u : 6));
@@ -195,7 +196,8 @@ function misdrawn(arms, steps) {
             const touches = points(bar).some(p => near(p, way[segment]) < 3 * u);
             if (!touches) found.push(`${train.dataset.train} isn't on ${segment}`);
         }
-        const made = parseInt(document.querySelector(`tr[data-train="${train.dataset.train}"]`).cells[3].textContent, 10);
+        const row = document.querySelector(`tr[data-train="${train.dataset.train}"]`);
+        const made = parseInt(row.cells[3].textContent, 10);
         const step = steps[train.dataset.train][made];
         if (!step || across) continue;
         const track = way[step.from];
@@ -531,7 +533,8 @@ async function testPlay(name) {
 
 async function testVerdict() {
     const said = { safe: ["safe", "audit: safe, 2 moves"],
-        unsafe: ["unsafe", "audit: not safe: line 3, guard 23: the other train doesn't hold the segment thereShow line 3"],
+        unsafe: ["unsafe", "audit: not safe: line 3, guard 23: the other train doesn't hold the segment there"
+            + "Show line 3"],
         faulty: ["unsafe", "audit: line 4 isn't a line of a report here"],
         fails: ["none", 'not audited: the audit answered "audited 6"'] };
     for (const [kind, wanted] of Object.entries(said)) {
@@ -569,7 +572,8 @@ async function testLarge(name) {
             const least = Math.min(...visible.map(label => label.getBoundingClientRect().height));
             const casing = document.querySelector("#picture .train .casing");
             const wide = parseFloat(getComputedStyle(casing).strokeWidth) * casing.getScreenCTM().a;
-            return { many: visible.length > 20, least, wide, map: !document.getElementById("map").hasAttribute("hidden"),
+            const map = !document.getElementById("map").hasAttribute("hidden");
+            return { many: visible.length > 20, least, wide, map,
                 cut: document.getElementById("cut").hidden };
         });
         assert.ok(seen.many && seen.least >= 11 && seen.wide > 13 && seen.map && !seen.cut, JSON.stringify(seen));
@@ -593,6 +597,7 @@ async function testLarge(name) {
         assert.ok(await browser.run(shown, label), label);
     });
     await test("a train that is followed stays in view", async () => {
+        for (let i = 0; i < 4; i++) await browser.key("+", "Equal", "+");
         for (const train of ["T0", "T7"]) {
             await browser.run(train => document.querySelector(`tr[data-train="${train}"] .chip`).click(), train);
             for (const move of [1, 200, 400, 600, 800]) {
@@ -643,7 +648,8 @@ async function testChoice() {
         assert.equal(await browser.run(at), next);
         await browser.run(() => document.getElementById("before").click());
         assert.equal(await browser.run(at), report.slice(0, next - 1).findLastIndex(mine) + 1);
-        const rows = () => [...document.querySelectorAll("#rows [data-move]")].slice(1).map(row => row.lastChild.textContent);
+        const rows = () => [...document.querySelectorAll("#rows [data-move]")].slice(1)
+            .map(row => row.lastChild.textContent);
         assert.ok((await browser.run(rows)).every(mine), "the list shows its moves only");
         await browser.run(wait, 900);
         assert.match(await browser.run(() => location.hash), /&chosen=train:Tram3$/);
@@ -665,7 +671,8 @@ async function testChoice() {
         await browser.key("e", "KeyE", "e");
         assert.equal(await browser.run(at), report.findIndex((line, i) => i >= no && line.startsWith("enter")) + 1);
         await browser.run(changed, "#kind", "lock");
-        const rows = () => [...document.querySelectorAll("#rows [data-move]")].slice(1).map(row => row.lastChild.textContent);
+        const rows = () => [...document.querySelectorAll("#rows [data-move]")].slice(1)
+            .map(row => row.lastChild.textContent);
         assert.ok((await browser.run(rows)).every(line => line.startsWith("lock ")));
         const x = () => document.querySelector('#picture [data-box="E1"] .reach').getBoundingClientRect().left;
         const before = await browser.run(x);
@@ -766,7 +773,10 @@ async function testLook() {
                         .map(c => c <= 0.04045 ? c / 12.92 : ((c + 0.055) / 1.055) ** 2.4);
                     return 0.2126 * r + 0.7152 * g + 0.0722 * b;
                 };
-                const contrast = (a, b) => (Math.max(light(a), light(b)) + 0.05) / (Math.min(light(a), light(b)) + 0.05);
+                const contrast = (...names) => {
+                    const lights = names.map(light);
+                    return (Math.max(...lights) + 0.05) / (Math.min(...lights) + 0.05);
+                };
                 return Math.min(...["--rail", "--edge", "--alarm", "--accent", "--soft", "--good"]
                     .map(name => contrast(name, "--paper")), contrast("--edge", "--ground"));
             });
@@ -788,7 +798,8 @@ async function testLook() {
     });
     await test("ArrowUp on the slider goes on, and on the list back; the columns stay", async () => {
         await browser.run(goTo, 20);
-        const widths = () => [...document.querySelectorAll("#trains th")].map(cell => cell.getBoundingClientRect().width);
+        const widths = () => [...document.querySelectorAll("#trains th")]
+            .map(cell => cell.getBoundingClientRect().width);
         const before = await browser.run(widths);
         await browser.run(() => document.getElementById("slider").focus());
         await browser.key("ArrowUp");
