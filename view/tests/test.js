@@ -615,6 +615,7 @@ async function testLarge(name) {
     });
     await test("panning has bounds, and one button drags", async () => {
         await browser.key("0", "Digit0", "0");
+        await browser.run(wait, 500);
         const [x, y] = await browser.run(middleOf, "#picture");
         const box = () => document.getElementById("picture").getAttribute("viewBox");
         const drag = async (button, buttons) => {
