@@ -81,7 +81,7 @@ function faceArms(net) {
         parent[b] = a;
         odd[b] = pa ^ pb ^ sign(e) ^ sign(f) ^ 1;
     }
-    const score = new Map(), first = new Map();
+    const score = new Map(), first = new Map(), written = new Map();
     for (const train of net.trains) {
         for (const step of train.steps) {
             const end = { box: step.box, arm: net.boxes[step.box].arms.indexOf(step.to) };
@@ -91,10 +91,16 @@ function faceArms(net) {
             if (!first.has(root)) first.set(root, way);
         }
     }
+    // What no train passes faces as the file has it: from a box to those that stand after it is east.
+    for (const { ends } of net.segments) {
+        const [root, parity] = find(half(ends[0]));
+        if (score.get(root) || first.get(root)) continue;
+        written.set(root, (written.get(root) || 0) + (sign(ends[0]) ^ parity ? 1 : -1));
+    }
     return net.boxes.map((box, number) => box.arms.map((_, arm) => {
         const end = { box: number, arm };
         const [root, parity] = find(half(end));
-        const turned = (score.get(root) || first.get(root) || 1) < 0 ? 1 : 0;
+        const turned = (score.get(root) || first.get(root) || written.get(root) || 1) < 0 ? 1 : 0;
         return (sign(end) ^ parity ^ turned) === 1;
     }));
 }
@@ -663,9 +669,31 @@ function finish(net, runs, bands, joins) {
         }
         const [first] = net.segments[run.number].ends;
         if (first.box !== run.a.box) way.reverse();
-        result.segments.set(run.number, { way: cutCorners(way), clear });
+        result.segments.set(run.number, { way, clear });
     }
+    result.boxes.forEach((place, box) => {
+        if (net.boxes[box].kind === "crossing") straightenArms(net, box, place, result.segments);
+    });
+    result.segments.forEach(segment => { segment.way = cutCorners(segment.way); });
     return result;
+}
+
+// The arms of a crossing begin as the straight stubs of an X, wherever their tracks then go: each track keeps its
+// direction, and the two cross.
+function straightenArms(net, box, { x, y }, segments) {
+    const arms = net.boxes[box].arms.map((segment, arm) => {
+        const { way } = segments.get(segment);
+        const first = net.segments[segment].ends[0].box === box;
+        const next = first ? way[1] : way[way.length - 2];
+        return { way, first, next, east: next[0] >= x ? 1 : -1, down: Math.sign(next[1] - y), track: arm < 2 ? 1 : -1 };
+    });
+    const agree = arms.reduce((sum, { east, down, track }) => sum + east * track * down, 0) < 0 ? -1 : 1;
+    for (const { way, first, next, east, down, track } of arms) {
+        const wanted = agree * east * track;
+        const stub = [x + 16 * east, y + 16 * wanted];
+        if (wanted === down && Math.abs(Math.abs(next[1] - y) - Math.abs(next[0] - x)) < 1) continue;
+        way.splice(first ? 1 : way.length - 1, 0, stub);
+    }
 }
 
 // Leaves out points that say nothing, and cuts right angles.

@@ -5,29 +5,67 @@ const LINE = 22;        // the height of a line in the list of moves
 const byId = id => document.getElementById(id);
 const textOf = id => byId(id).textContent;
 
+let page, pristine, zoom;
+
 function start() {
-    const name = textOf("file").trim();
+    pristine = document.querySelector("main").cloneNode(true);
+    zoom = byId("zoom").cloneNode(true);
+    open(textOf("file").trim(), textOf("tables"), byId("report")?.textContent, byId("verdict-text")?.textContent);
+    addEventListener("dragover", event => event.preventDefault());
+    addEventListener("drop", event => {
+        event.preventDefault();
+        drop([...event.dataTransfer.files]);
+    });
+}
+
+// Reads texts and shows them; a text that isn't as it should be is told in place of the drawing.
+function open(name, tables, report, verdict) {
+    if (page) page.end();
+    page = null;
+    byId("fault")?.remove();
+    document.querySelector("main")?.remove();
     if (name) {
         document.title = name + " - relis";
         byId("name").textContent = name;
     }
     let net, run;
     try {
-        net = readTables(textOf("tables"));
-        run = readReport(textOf("report"), net);
+        net = readTables(tables);
+        run = report === undefined ? noRun() : readReport(report, net);
     } catch (fault) {
         if (!(fault instanceof Fault)) throw fault;
         showFault(fault.message);
         return;
     }
-    document.querySelector("main").hidden = false;
+    const main = pristine.cloneNode(true);
+    main.hidden = false;
+    document.querySelector("header").after(main);
+    byId("zoom")?.remove();
+    document.querySelector("header").append(zoom.cloneNode(true));
     byId("zoom").hidden = false;
-    new Page(net, run);
+    document.body.classList.toggle("still", report === undefined);
+    shown = { name, tables };
+    page = new Page(net, run, report === undefined ? null : readVerdict(verdict));
+}
+
+// What is dropped on the page: the tables of a network, a report, or both.
+let shown = { name: "", tables: "" };
+async function drop(files) {
+    let { name, tables } = shown;
+    let report;
+    for (const file of files.slice(0, 2)) {
+        const text = clean((await file.slice(0, 10000000).text()));
+        if (text.startsWith("relis tables")) [name, tables] = [file.name.replace(/\.[^.]*$/, "").slice(0, 60), text];
+        else report = text;
+    }
+    history.replaceState(null, "", location.pathname);
+    open(name, tables, report);
 }
 
 function showFault(sentence) {
-    document.querySelector("main").remove();
-    byId("zoom").remove();
+    document.querySelector("main")?.remove();
+    byId("zoom")?.remove();
+    byId("verdict").replaceChildren();
     const told = document.createElement("p");
     told.className = "fault";
     told.id = "fault";
@@ -37,10 +75,6 @@ function showFault(sentence) {
     document.querySelector("header").after(told);
 }
 
-function count(number, one, many = one + "s") {
-    return `${number.toLocaleString("en")} ${number === 1 ? one : many}`;
-}
-
 function element(tag, text, className) {
     const made = document.createElement(tag);
     if (text !== undefined) made.textContent = text;
@@ -48,32 +82,114 @@ function element(tag, text, className) {
     return made;
 }
 
+const KINDS = { train: "trainNumber", segment: "segmentNumber", box: "boxNumber" };
+const LISTS = { train: "trains", segment: "segments", box: "boxes" };
+
 class Page {
-    constructor(net, run) {
+    constructor(net, run, verdict) {
         this.net = net;
         this.run = run;
+        this.verdict = verdict;
+        this.ending = new AbortController();
         this.play = new Play(net, run);
-        this.picture = new Picture(byId("picture"), net, this.play);
         this.still = matchMedia("(prefers-reduced-motion: reduce)");
         this.playing = 0;
         this.gliding = 0;
         this.followed = NONE;
+        this.chosen = null;
+        this.hash = location.hash;
+        const asked = this.asked();
+        this.flipped = asked.flip === "1";
+        const about = verdict ? [count(run.moves.length, "move"), `${run.tries} tries`]
+            : ["no run: drop a report here"];
         byId("summary").textContent = [count(net.segments.length, "segment"), count(net.boxes.length, "box", "boxes"),
-            count(net.trains.length, "train"), count(run.moves.length, "move"), `${run.tries} tries`].join(" · ");
+            count(net.trains.length, "train"), ...about].join(" · ");
         byId("slider").max = run.moves.length;
-        if (!net.boxes.length) make("text", { x: 0, y: 0, class: "name" }, byId("picture"), "an empty network");
-        this.view = new View(byId("picture"), this.picture.bounds);
+        if ([...byId("speed").options].some(option => option.value === asked.speed)) byId("speed").value = asked.speed;
+        this.drawPicture();
         this.addTrains();
+        this.addFilters();
         this.addList();
         this.addControls();
+        this.showVerdict();
         addLegend(byId("legend").querySelector("ul"));
+        this.chart = new Chart(document.querySelector("#chart canvas"), net, run, this.play);
+        this.drawChart();
+        const [kind, name] = (asked.chosen || "").split(":");
+        const number = Object.hasOwn(KINDS, kind) ? net[KINDS[kind]].get(name) : undefined;
         this.show(this.wanted(), false);
+        if (number !== undefined) this.choose({ kind, number });
+    }
+
+    end() {
+        this.pause();
+        clearTimeout(this.noting);
+        cancelAnimationFrame(this.gliding);
+        this.seen.abort();
+        this.ending.abort();
+    }
+
+    drawPicture() {
+        this.seen?.abort();
+        this.seen = new AbortController();
+        const svg = byId("picture").cloneNode(false), map = byId("map").cloneNode(false);
+        byId("picture").replaceWith(svg);
+        byId("map").replaceWith(map);
+        this.picture = new Picture(svg, this.net, this.play, this.flipped);
+        if (!this.net.boxes.length) make("text", { x: 0, y: 0, class: "name" }, svg, "an empty network");
+        this.view = new View(svg, this.picture, map, this.seen.signal);
+        svg.addEventListener("click", event => {
+            if (this.view.dragged > 6) return;
+            const under = document.elementFromPoint(event.clientX, event.clientY);
+            const { dataset } = svg.contains(under) && under.closest("[data-train], [data-box], [data-segment]") || {};
+            if (!dataset) this.choose(null);
+            else if (dataset.train && !dataset.segment) this.pick("train", dataset.train);
+            else if (dataset.box && !dataset.segment) this.pick("box", dataset.box);
+            else this.pick("segment", dataset.segment);
+        });
+        if (this.chosen) this.picture.choose(this.chosen);
+    }
+
+    flip() {
+        this.flipped = !this.flipped;
+        this.drawPicture();
+        this.show(this.play.at, false);
+    }
+
+    // Acts in the frame after an element got another size, as long as the page shows this run.
+    watch(element, act) {
+        const { signal } = this.ending;
+        const observer = new ResizeObserver(() => requestAnimationFrame(() => { if (!signal.aborted) act(); }));
+        observer.observe(element);
+        signal.addEventListener("abort", () => observer.disconnect());
+    }
+
+    // What the address asks for, as far as it is understood.
+    asked() {
+        return Object.fromEntries(new URLSearchParams(location.hash.slice(1)));
     }
 
     // The move in the address, as far as it is one.
     wanted() {
-        const found = /^#move=([0-9]{1,7})$/.exec(location.hash);
-        return found ? Math.min(Number(found[1]), this.play.length) : 0;
+        const { move } = this.asked();
+        return /^[0-9]{1,7}$/.test(move) ? Math.min(Number(move), this.play.length) : 0;
+    }
+
+    showVerdict() {
+        const told = byId("verdict");
+        told.hidden = !this.verdict;
+        told.replaceChildren();
+        if (!this.verdict) return;
+        const { kind, says, line } = this.verdict;
+        told.className = kind;
+        told.append(element("span", says));
+        const move = line - REPORT_HEAD;
+        if (line <= 0) return;
+        const button = element("button", move <= this.play.length ? `Show line ${line}` : "Show the end");
+        button.type = "button";
+        button.id = "faulty";
+        button.addEventListener("click", () => this.show(Math.min(move, this.play.length), false));
+        told.append(button);
     }
 
     addTrains() {
@@ -82,9 +198,11 @@ class Page {
             const row = body.insertRow();
             row.dataset.train = train.name;
             const chip = element("button", train.name, "chip " + colourOf(number));
-            chip.title = "Keeps the train in view";
+            chip.title = "Chooses the train, and keeps it in view";
             chip.setAttribute("aria-pressed", false);
-            chip.addEventListener("click", () => this.follow(number));
+            chip.addEventListener("click", () => {
+                this.choose(this.followed === number ? null : { kind: "train", number });
+            });
             row.insertCell().append(chip);
             for (let i = 0; i < 4; i++) row.insertCell();
             this.showRow(row, number);
@@ -96,50 +214,206 @@ class Page {
         const { made, refused, wait } = this.play.train(number);
         const { steps } = this.net.trains[number];
         const [, now, on, done, met] = row.cells;
-        on.textContent = this.picture.whereIs(number);
-        done.textContent = `${made} of ${steps.length}`;
-        met.textContent = refused;
-        now.textContent = this.says(number, made, wait);
+        const put = (cell, text) => { if (cell.textContent !== text) cell.textContent = text; };
+        put(on, this.picture.whereIs(number));
+        put(done, `${made} of ${steps.length}`);
+        put(met, String(refused));
+        put(now, this.says(number, made, wait));
         now.className = wait === NONE ? "" : "waits";
     }
 
-    follow(number) {
-        this.followed = this.followed === number ? NONE : number;
+    pick(kind, name) {
+        this.choose({ kind, number: this.net[KINDS[kind]].get(name) });
+    }
+
+    choose(chosen) {
+        this.chosen = chosen;
+        this.followed = chosen && chosen.kind === "train" ? chosen.number : NONE;
         this.rows.forEach((row, i) => row.querySelector(".chip").setAttribute("aria-pressed", i === this.followed));
-        if (this.followed !== NONE) this.view.keep(this.placeOfTrain(number));
+        this.picture.choose(chosen);
+        byId("of").value = chosen ? `${chosen.kind}:${this.nameOf(chosen)}` : "";
+        this.filter();
+        this.showChosen();
+        if (this.followed !== NONE) this.view.keep(this.placeOfTrain(this.followed));
+        this.note();
+    }
+
+    nameOf({ kind, number }) {
+        return this.net[LISTS[kind]][number].name;
+    }
+
+    showChosen() {
+        const { chosen, net, play, picture, run } = this;
+        byId("chosen").hidden = !chosen;
+        if (!chosen) return;
+        const { kind, number } = chosen;
+        byId("chosen").querySelector("h2").textContent = `${{ train: "Train", segment: "Segment", box: "Box" }[kind]} `
+            + this.nameOf(chosen);
+        let says = kind === "segment" ? picture.segments[number].says : picture.boxes[number].says;
+        if (kind === "train") {
+            const { made, wait, tries } = play.train(number);
+            const { steps, start } = net.trains[number];
+            const route = [start, ...steps.map(step => step.to)].map(segment => net.segments[segment].name);
+            const goal = route[route.length - 1];
+            says = [this.says(number, made, wait), `to ${goal}`, `${tries} of ${run.tries} tries`,
+                `route ${route.map((name, i) => i === made ? `[${name}]` : name).join(" → ")}`].join("; ");
+        }
+        byId("chosen").querySelector("p").textContent = says;
     }
 
     // What a train is about, in words.
     says(number, made, wait) {
         const { net, play, run } = this;
-        const { fate } = run.outcomes[number];
+        const fate = run.outcomes[number]?.fate;
         const { steps } = net.trains[number];
-        const ended = play.at === play.length;
+        const ended = play.at === play.length && fate !== undefined;
         if (ended && fate === "spent" && wait !== NONE) return "spent: " + this.why(wait);
         if (ended && fate !== "underway") return fate;
         if (wait !== NONE) return (ended ? "underway, waits: " : "waits: ") + this.why(wait);
         if (ended) return fate;
         const step = steps[made];
         if (!step) return steps.length ? "at the end of its route" : "stays";
-        if (this.play.train(number).across !== NONE) {
+        if (play.train(number).across !== NONE) {
             return `passes ${net.boxes[step.box].name} to ${net.segments[step.to].name}`;
         }
         return `goes to ${net.segments[step.to].name} by ${net.boxes[step.box].name}`;
     }
 
     why(wait) {
-        const move = this.run.moves[wait];
+        const move = this.run.moves.at(wait);
+        const is = this.play.isStillHeld(move) ? "is" : "was";
         const by = this.net.trains[move.by].name;
-        if (move.verb === "bar") return `${this.net.boxes[move.box].name} is locked by ${by}`;
-        return `${this.net.segments[move.segments[0]].name} is held by ${by} at ${this.net.boxes[move.box].name}`;
+        if (move.verb === "bar") return `${this.net.boxes[move.box].name} ${is} locked by ${by}`;
+        return `${this.net.segments[move.segments[0]].name} ${is} held by ${by} at ${this.net.boxes[move.box].name}`;
+    }
+
+    // Trains that wait for each other in a ring, from the move on at which the last of them was refused.
+    showJams() {
+        const jams = this.play.jams.filter(({ since }) => this.play.at >= since);
+        this.picture.showJams(jams);
+        byId("jam").hidden = !this.play.jams.length;
+        const name = t => this.net.trains[t].name;
+        const says = ({ trains, since }) => `${trains.map((t, i) => {
+            return `${name(t)} waits for ${name(trains[(i + 1) % trains.length])}`;
+        }).join(", ")}: since move ${since}`;
+        const all = jams.map(says).join("; ");
+        const key = all || "-";
+        if (this.toldJams === key) return;
+        this.toldJams = key;
+        const goes = element("button", jams.length ? "Show its beginning" : "A jam is ahead: show its beginning");
+        goes.type = "button";
+        goes.addEventListener("click", () => this.show(this.play.jams[0]?.since ?? 0, false));
+        byId("jam").replaceChildren(all ? "Jam: " + all + " " : "", goes);
+    }
+
+    // The moves of the list: all, or those of a train, segment or box and of a kind.
+    addFilters() {
+        const { net } = this;
+        for (const [kind, list] of Object.entries(LISTS)) {
+            const group = element("optgroup");
+            group.label = list;
+            net[list].forEach(({ name }) => {
+                const option = element("option", name);
+                option.value = `${kind}:${name}`;
+                group.append(option);
+            });
+            byId("of").append(group);
+        }
+        for (const [value, text] of [["no", "refusals"], ...VERBS.map(verb => [verb, verb])]) {
+            const option = element("option", text);
+            option.value = value;
+            byId("kind").append(option);
+        }
+        byId("of").addEventListener("change", event => {
+            const [kind, name] = event.target.value.split(":");
+            if (name) this.pick(kind, name);
+            else this.choose(null);
+        });
+        byId("kind").addEventListener("change", () => this.filter());
+    }
+
+    isOf(move, { kind, number }) {
+        if (kind === "train") return move.train === number || move.by === number;
+        return kind === "box" ? move.box === number : move.segments.includes(number);
+    }
+
+    // The numbers of the moves that the list shows, with 0 for the start; null for all.
+    filter() {
+        const kind = byId("kind").value;
+        const { chosen, run } = this;
+        this.listed = null;
+        if (chosen || kind) {
+            const found = [0];
+            for (let i = 0; i < run.moves.length; i++) {
+                const verb = run.moves.verb(i);
+                const isKind = !kind || verb === kind || kind === "no" && (verb === "refuse" || verb === "bar");
+                if (isKind && (!chosen || this.isOf(run.moves.at(i), chosen))) found.push(i + 1);
+            }
+            this.listed = found;
+        }
+        byId("rows").style.height = LINE * this.lines() + "px";
+        this.scrollList();
+    }
+
+    lines() {
+        return this.listed ? this.listed.length : this.play.length + 1;
+    }
+
+    moveOf(line) {
+        return this.listed ? this.listed[line] : line;
+    }
+
+    // The line of the present move, or of the last one before it.
+    lineAt(at) {
+        if (!this.listed) return at;
+        let low = 0, high = this.listed.length - 1;
+        while (low < high) {
+            const middle = (low + high + 1) >> 1;
+            if (this.listed[middle] <= at) low = middle;
+            else high = middle - 1;
+        }
+        return low;
+    }
+
+    // Goes to the next move of some verbs, or of what is chosen, or to the one before.
+    seek(by, fits) {
+        this.pause();
+        const { moves } = this.run;
+        for (let i = this.play.at - 1 + by; i >= 0 && i < moves.length; i += by) {
+            if (fits(i)) {
+                this.show(i + 1, false);
+                return;
+            }
+        }
+    }
+
+    seekVerb(by, ...verbs) {
+        this.seek(by, i => verbs.includes(this.run.moves.verb(i)));
+    }
+
+    seekChosen(by) {
+        if (this.chosen) this.seek(by, i => this.isOf(this.run.moves.at(i), this.chosen));
+    }
+
+    drawChart() {
+        if (!this.verdict) return;
+        const { chart } = this;
+        const draw = () => {
+            chart.rows = byId("rows-of").value;
+            chart.draw();
+            byId("now").style.left = chart.placeOf(this.play.at) + "px";
+        };
+        byId("rows-of").addEventListener("change", draw);
+        this.watch(byId("chart"), draw);
+        chart.canvas.addEventListener("click", event => this.show(chart.moveAt(event.clientX), false));
     }
 
     // The list holds only the lines that can be seen.
     addList() {
         const list = byId("list");
-        byId("rows").style.height = LINE * (this.play.length + 1) + "px";
+        byId("rows").style.height = LINE * this.lines() + "px";
         list.addEventListener("scroll", () => this.fillList());
-        new ResizeObserver(() => requestAnimationFrame(() => this.fillList())).observe(list);
+        this.watch(list, () => this.fillList());
         byId("rows").addEventListener("click", event => {
             const row = event.target.closest("[data-move]");
             if (row) this.show(Number(row.dataset.move), false);
@@ -149,18 +423,20 @@ class Page {
     fillList() {
         const list = byId("list");
         const first = Math.max(0, Math.floor(list.scrollTop / LINE) - 4);
-        const last = Math.min(this.play.length, Math.ceil((list.scrollTop + list.clientHeight) / LINE) + 4);
+        const last = Math.min(this.lines() - 1, Math.ceil((list.scrollTop + list.clientHeight) / LINE) + 4);
         const rows = [];
-        for (let at = first; at <= last; at++) {
-            const row = element("div");
-            row.style.top = LINE * at + "px";
+        const faulty = this.verdict?.line > 0 ? this.verdict.line - REPORT_HEAD : NONE;
+        for (let place = first; place <= last; place++) {
+            const at = this.moveOf(place);
+            const row = element("div", undefined, at === faulty ? "faulty" : "");
+            row.style.top = LINE * place + "px";
             row.id = "move-" + at;
             row.dataset.move = at;
             row.setAttribute("role", "option");
             row.setAttribute("aria-selected", at === this.play.at);
-            row.setAttribute("aria-posinset", at + 1);
-            row.setAttribute("aria-setsize", this.play.length + 1);
-            const move = this.run.moves[at - 1];
+            row.setAttribute("aria-posinset", place + 1);
+            row.setAttribute("aria-setsize", this.lines());
+            const move = this.run.moves.at(at - 1);
             const line = at ? lineOf(this.net, move) : "the start";
             row.title = line;
             const refused = at > 0 && move.by !== NONE;
@@ -173,7 +449,7 @@ class Page {
 
     scrollList() {
         const list = byId("list");
-        const top = LINE * this.play.at;
+        const top = LINE * this.lineAt(this.play.at);
         if (top < list.scrollTop + LINE || top > list.scrollTop + list.clientHeight - 2 * LINE) {
             list.scrollTop = top - list.clientHeight / 2 + LINE / 2;
         }
@@ -181,10 +457,11 @@ class Page {
     }
 
     addControls() {
+        const { signal } = this.ending;
         const on = (id, act) => byId(id).addEventListener("click", event => {
             act();
             if (event.detail) byId(id).blur();
-        });
+        }, { signal });
         on("first", () => this.show(0, false));
         on("back", () => this.step(-1));
         on("forward", () => this.step(1));
@@ -194,19 +471,33 @@ class Page {
         on("farther", () => this.view.zoom(1 / 1.4));
         on("whole", () => this.view.whole());
         on("save", () => this.save());
+        on("flip", () => this.flip());
+        on("full", () => this.full());
+        on("refusal", () => this.seekVerb(1, "refuse", "bar"));
+        on("entry", () => this.seekVerb(1, "enter"));
+        on("before", () => this.seekChosen(-1));
+        on("after", () => this.seekChosen(1));
+        on("nothing", () => this.choose(null));
         byId("slider").addEventListener("input", event => this.show(Number(event.target.value), false));
-        byId("speed").addEventListener("change", () => { if (this.playing) this.begin(); });
-        addEventListener("hashchange", () => { if (this.wanted() !== this.play.at) this.show(this.wanted(), false); });
-        addEventListener("keydown", event => this.key(event));
+        byId("speed").addEventListener("change", () => {
+            if (this.playing) this.begin();
+            this.note();
+        });
+        addEventListener("hashchange", () => {
+            this.hash = location.hash;
+            if (this.wanted() !== this.play.at) this.show(this.wanted(), false);
+        }, { signal });
+        addEventListener("keydown", event => this.key(event), { signal });
     }
 
     key(event) {
         if (event.ctrlKey || event.metaKey || event.altKey) return;
         const tag = event.target.tagName;
         if (tag === "SELECT" || event.key === " " && tag === "BUTTON") return;
-        const inside = event.target === byId("list") || event.target === byId("slider");
-        const page = inside ? { PageUp: () => this.step(-10), PageDown: () => this.step(10),
-            ArrowUp: () => this.step(-1), ArrowDown: () => this.step(1) } : {};
+        const inList = event.target === byId("list"), inSlider = event.target === byId("slider");
+        const down = inSlider ? -1 : 1;
+        const page = inList || inSlider ? { PageUp: () => this.step(-10 * down), PageDown: () => this.step(10 * down),
+            ArrowUp: () => this.step(-down), ArrowDown: () => this.step(down) } : {};
         const acts = {
             " ": () => this.toggle(),
             ArrowLeft: () => this.step(-1),
@@ -216,11 +507,26 @@ class Page {
             "+": () => this.view.zoom(1.4),
             "-": () => this.view.zoom(1 / 1.4),
             "0": () => this.view.whole(),
+            r: () => this.seekVerb(1, "refuse", "bar"),
+            R: () => this.seekVerb(-1, "refuse", "bar"),
+            e: () => this.seekVerb(1, "enter"),
+            E: () => this.seekVerb(-1, "enter"),
+            m: () => this.flip(),
+            f: () => this.full(),
+            Escape: () => document.body.classList.contains("full") ? this.full() : this.choose(null),
             ...page,
         };
         if (!Object.hasOwn(acts, event.key)) return;
         event.preventDefault();
         acts[event.key]();
+    }
+
+    // The picture with its controls takes the whole window, or no longer.
+    full() {
+        byId("full").setAttribute("aria-pressed", document.body.classList.toggle("full"));
+        byId("picture").style.height = "";
+        this.view.moved = false;
+        this.view.fit();
     }
 
     step(by) {
@@ -241,8 +547,8 @@ class Page {
         const speed = Number(byId("speed").value);
         let last = performance.now(), due = 0;
         const frame = now => {
-            due += Math.min(0.5, (now - last) / 1000) * speed;
-            last = now;
+            due += Math.max(0, Math.min(0.5, (now - last) / 1000)) * speed;
+            last = Math.max(last, now);
             const steps = Math.floor(due);
             due -= steps;
             if (steps) this.show(Math.min(this.play.length, this.play.at + steps), steps === 1 && speed <= 5);
@@ -267,29 +573,45 @@ class Page {
         if (this.leftOver) this.leftOver();
         this.leftOver = null;
         const { trains } = this.picture.go(at);
-        for (let number = 0; number < this.rows.length; number++) {
-            const every = at === this.play.length || shown === this.play.length;
-            if (every || trains.has(number)) this.showRow(this.rows[number], number);
-        }
-        const move = this.run.moves[at - 1];
-        this.rows.forEach((row, number) => row.classList.toggle("now", Boolean(move) && move.train === number));
-        const told = move ? tell(this.net, move) : "at the start";
-        byId("caption").replaceChildren(element("span", at ? `${at}. ` : "", "number"),
-            told[0].toUpperCase() + told.slice(1));
-        byId("slider").value = at;
-        byId("slider").setAttribute("aria-valuetext", `move ${at}: ${told}`);
-        byId("place").textContent = `move ${at} of ${this.play.length}`;
-        document.documentElement.dataset.move = at;
+        const every = at === this.play.length || shown === this.play.length;
+        const move = this.run.moves.at(at - 1);
+        this.rows.forEach((row, number) => {
+            if (every || trains.has(number)) this.showRow(row, number);
+            row.classList.toggle("now", Boolean(move) && move.train === number);
+        });
+        this.tellMove(at, move);
+        this.showJams();
+        if (this.chosen) this.showChosen();
         this.scrollList();
-        if (this.followed !== NONE) this.view.keep(this.placeOfTrain(this.followed));
-        else if (!this.playing && move) this.view.keep(this.placeOf(move));
-        else if (!this.playing && this.rows.length) this.view.keep(this.placeOfTrain(0));
+        this.keepInView(move);
+        this.picture.declutter();
+        this.view.showDots();
+        if (this.chart.step) byId("now").style.left = this.chart.placeOf(at) + "px";
         this.note();
         if (glides && !this.still.matches && ["enter", "leave"].includes(move.verb)) this.glide(move);
     }
 
+    tellMove(at, move) {
+        const told = move ? tell(this.net, move) : "at the start";
+        const faulty = this.verdict?.line > 0 && at === this.verdict.line - REPORT_HEAD;
+        const says = move && move.train !== NONE ? told : told[0].toUpperCase() + told.slice(1);
+        byId("caption").replaceChildren(element("span", at ? `${at}. ` : "", "number"), says);
+        if (faulty) byId("caption").append(element("span", ": this is the line that isn't safe", "waits"));
+        for (const crash of this.picture.crashSays) byId("caption").append(element("span", `; ${crash}`, "waits"));
+        byId("slider").value = at;
+        byId("slider").setAttribute("aria-valuetext", `move ${at}: ${told}`);
+        byId("place").textContent = `move ${at} of ${this.play.length}`;
+        document.documentElement.dataset.move = at;
+    }
+
+    keepInView(move) {
+        if (this.followed !== NONE) this.view.keep(this.placeOfTrain(this.followed));
+        else if (!this.playing && move) this.view.keep(this.placeOf(move));
+        else if (!this.playing && this.rows.length) this.view.keep(this.placeOfTrain(0));
+    }
+
     placeOf(move) {
-        if (move.box < 0) return this.placeOfTrain(move.train);
+        if (move.box === NONE) return this.placeOfTrain(move.train);
         const { x, y } = this.picture.boxes[move.box];
         return [x, y];
     }
@@ -310,12 +632,13 @@ class Page {
         const [across, alone] = move.verb === "enter" ? [to, from] : [from, to];
         const [middle] = cut(alone.way, (alone.from + alone.to) / 2, (alone.from + alone.to) / 2);
         const at = lengthAt(across.way, ...middle);
-        const rest = { from: at - BAR / 2, to: at + BAR / 2 };
+        const half = (alone.to - alone.from) / 2;
+        const rest = { from: at - half, to: at + half };
         const [a, b] = move.verb === "enter" ? [rest, across] : [across, rest];
         const took = 240;
         const begun = performance.now();
         const draw = share => this.picture.drawTrain(move.train, {
-            way: across.way, headed: true,
+            way: across.way, headed: true, aside: across.aside,
             from: a.from + (b.from - a.from) * share, to: a.to + (b.to - a.to) * share,
         });
         this.leftOver = () => this.picture.showTrain(move.train);
@@ -329,19 +652,28 @@ class Page {
         this.gliding = requestAnimationFrame(frame);
     }
 
-    // Writes the move into the address, not too often, as browsers count how often it changes.
+    // Writes what is seen into the address: soon after the last change, as browsers count how often it changes.
     note() {
-        const write = () => {
-            this.noting = 0;
-            if (this.wanted() === this.play.at && location.hash) return;
-            history.replaceState(null, "", "#move=" + this.play.at);
-        };
-        if (this.playing) {
-            this.noting = this.noting || setTimeout(write, 400);
-            return;
-        }
         clearTimeout(this.noting);
-        write();
+        const wait = this.playing ? 1000 : 250;
+        const due = Math.max(wait, (this.noted || 0) + 400 - performance.now());
+        this.noting = setTimeout(() => this.writeAddress(), due);
+    }
+
+    address() {
+        const words = ["move=" + this.play.at];
+        if (byId("speed").value !== "2") words.push("speed=" + byId("speed").value);
+        if (this.flipped) words.push("flip=1");
+        if (this.chosen) words.push(`chosen=${this.chosen.kind}:${this.nameOf(this.chosen)}`);
+        return "#" + words.join("&");
+    }
+
+    writeAddress() {
+        this.noting = 0;
+        this.noted = performance.now();
+        if (location.hash !== this.hash) return;
+        if (this.hash !== this.address()) history.replaceState(null, "", this.address());
+        this.hash = this.address();
     }
 
     // The picture as it stands, with the colours in its own text.
@@ -350,10 +682,11 @@ class Page {
         const { x, y, width, height } = this.picture.bounds;
         for (const name of ["id", "style", "aria-labelledby"]) svg.removeAttribute(name);
         svg.setAttribute("viewBox", [x, y, width, height].map(round).join(" "));
-        svg.setAttribute("width", round(width));
-        svg.setAttribute("height", round(height));
+        svg.setAttribute("width", round(width / this.picture.u));
+        svg.setAttribute("height", round(height / this.picture.u));
         const colours = getComputedStyle(document.documentElement);
         const style = byId("drawing").textContent
+            .replace(/calc\(([0-9.]+)px \* var\(--u\)\)/g, (_, size) => round(size * this.picture.u) + "px")
             .replace(/var\((--[a-z0-9]+)\)/g, (_, name) => colours.getPropertyValue(name).trim());
         svg.prepend(make("style", {}, null, style), make("rect", { x, y, width, height, fill:
             colours.getPropertyValue("--paper").trim() }));
@@ -365,190 +698,6 @@ class Page {
         link.href = "data:image/svg+xml;charset=utf-8," + encodeURIComponent(this.drawing());
         link.download = `${byId("name").textContent.replace(/[^A-Za-z0-9_-]/g, "_")}-move-${this.play.at}.svg`;
         link.click();
-    }
-}
-
-// Which part of the drawing is seen.
-class View {
-    constructor(svg, bounds) {
-        this.svg = svg;
-        this.bounds = bounds;
-        this.moved = false;
-        this.fingers = new Map();
-        this.fit();
-        new ResizeObserver(() => requestAnimationFrame(() => this.resized())).observe(svg);
-        svg.addEventListener("wheel", event => {
-            const fits = !this.moved && this.scale() <= this.fitting() * 1.001;
-            if (event.ctrlKey || !fits) this.wheel(event);
-        }, { passive: false });
-        svg.addEventListener("pointerdown", event => {
-            svg.setPointerCapture(event.pointerId);
-            this.fingers.set(event.pointerId, [event.clientX, event.clientY]);
-        });
-        svg.addEventListener("pointermove", event => this.drag(event));
-        for (const kind of ["pointerup", "pointercancel"]) {
-            svg.addEventListener(kind, event => this.fingers.delete(event.pointerId));
-        }
-    }
-
-    size() {
-        const { clientWidth, clientHeight } = this.svg;
-        return { wide: clientWidth || 800, high: clientHeight || 400 };
-    }
-
-    scale() {
-        return this.size().wide / this.box.width;
-    }
-
-    fitting() {
-        const { wide, high } = this.size();
-        return Math.min(wide / this.bounds.width, high / this.bounds.height);
-    }
-
-    resized() {
-        if (this.moved) {
-            this.set(this.box.x, this.box.y, this.box.width);
-            return;
-        }
-        this.fit();
-        if (this.kept) this.keep(this.kept);
-    }
-
-    // The height of the picture follows the network. All of it is seen where that can be read, otherwise a part.
-    fit() {
-        const { wide } = this.size();
-        const most = Math.max(240, Math.min(innerHeight * 0.62, 1400));
-        const readable = wide < 700 ? 0.7 : 0.4;
-        const scale = Math.max(Math.min(wide / this.bounds.width, this.largest()), readable);
-        this.svg.style.height = Math.max(150, Math.min(most, this.bounds.height * scale)) + "px";
-        this.set(0, 0, wide / Math.max(Math.min(this.fitting(), this.largest()), readable));
-        this.centre(true);
-    }
-
-    // A small network isn't drawn larger than this.
-    largest() {
-        return Math.max(1.6, this.size().wide / 750);
-    }
-
-    centre(cropped) {
-        const { x, y, width, height } = this.bounds;
-        const left = cropped && this.box.width < width ? x : x + width / 2 - this.box.width / 2;
-        const top = cropped && this.box.height < height ? y : y + height / 2 - this.box.height / 2;
-        this.set(left, top, this.box.width);
-    }
-
-    whole() {
-        this.moved = false;
-        this.svg.style.height = "";
-        this.fit();
-        const scale = Math.min(this.fitting(), this.largest());
-        this.set(0, 0, this.size().wide / scale);
-        this.centre(false);
-    }
-
-    set(x, y, width) {
-        const { wide, high } = this.size();
-        this.box = { x, y, width, height: width * high / wide };
-        this.svg.setAttribute("viewBox", [x, y, width, this.box.height].map(round).join(" "));
-    }
-
-    // Closer by a factor, about a place of the window or the middle.
-    zoom(factor, clientX, clientY) {
-        const frame = this.svg.getBoundingClientRect();
-        const shareX = clientX === undefined ? 0.5 : (clientX - frame.left) / frame.width;
-        const shareY = clientY === undefined ? 0.5 : (clientY - frame.top) / frame.height;
-        const most = 2 * Math.max(this.bounds.width, this.bounds.height * this.size().wide / this.size().high);
-        const width = Math.max(150, Math.min(most, this.box.width / factor));
-        const { x, y, width: before, height } = this.box;
-        this.moved = true;
-        this.set(x + shareX * (before - width), y + shareY * (height - height * width / before), width);
-    }
-
-    wheel(event) {
-        event.preventDefault();
-        this.zoom(Math.exp(-event.deltaY * (event.deltaMode ? 0.05 : 0.0015)), event.clientX, event.clientY);
-    }
-
-    drag(event) {
-        const last = this.fingers.get(event.pointerId);
-        if (!last) return;
-        const now = [event.clientX, event.clientY];
-        const others = [...this.fingers].filter(([id]) => id !== event.pointerId).map(([, place]) => place);
-        this.fingers.set(event.pointerId, now);
-        this.moved = true;
-        if (others.length === 0) {
-            const scale = this.scale();
-            this.set(this.box.x - (now[0] - last[0]) / scale, this.box.y - (now[1] - last[1]) / scale, this.box.width);
-        } else {
-            const [x, y] = others[0];
-            const factor = Math.hypot(now[0] - x, now[1] - y) / Math.max(1, Math.hypot(last[0] - x, last[1] - y));
-            this.zoom(factor, (now[0] + x) / 2, (now[1] + y) / 2);
-        }
-    }
-
-    // Moves the view so far that a place is in it, but not beyond the drawing.
-    keep([x, y]) {
-        this.kept = [x, y];
-        const along = (at, from, size, least, whole) => {
-            const edge = Math.min(70, size / 5);
-            if (at >= from + edge && at <= from + size - edge) return from;
-            if (size >= whole) return from <= least && from + size >= least + whole ? from : least + (whole - size) / 2;
-            return Math.max(least, Math.min(least + whole - size, at - size / 2));
-        };
-        const { box, bounds } = this;
-        const left = along(x, box.x, box.width, bounds.x, bounds.width);
-        const top = along(y, box.y, box.height, bounds.y, bounds.height);
-        if (left !== box.x || top !== box.y) this.set(left, top, box.width);
-    }
-}
-
-// What the marks mean, each with a small drawing.
-function addLegend(list) {
-    const rail = { class: "rail", d: "M8 26H76" };
-    const ends = ["path", { class: "gap", d: "M8 20V32M76 20V32" }];
-    const held = (d, more = "") => ["g", { class: "hold on c0" + more },
-        ["path", { class: "casing", d }], ["path", { class: "colour s", d }]];
-    const tag = (kind, colour, name, x) => ["g", { class: `tag ${kind} ${colour}` },
-        ["rect", { class: "f s", x: x - 11, y: 3, width: 22, height: 14, rx: kind === "here" ? 4 : 7 }],
-        ["text", { x, y: 14 }, name]];
-    const train = (colour, x) => ["g", { class: "train " + colour },
-        ["path", { class: "casing", d: `M${x - 22} 26h32` }], ["path", { class: "bar s", d: `M${x - 22} 26h32` }],
-        ["path", { class: "windows", d: `M${x - 17} 26h25` }],
-        ["path", { class: "head f", d: `M${x + 10} 18.5l12 7.5l-12 7.5Z` }]];
-    const ring = ["g", { class: "lock c0" },
-        ["circle", { class: "casing", cx: 42, cy: 22, r: 15 }], ["circle", { class: "ring s", cx: 42, cy: 22, r: 15 }],
-        ["path", { class: "casing", d: "M27 22H53" }], ["path", { class: "path s", d: "M27 22H53" }],
-        ["path", { class: "tip f", d: "M62 22l-11 7v-14Z" }]];
-    const fork = blade => ["g", { class: "box" }, ["path", { class: "rail", d: "M8 30H38M56 30H76M52 16L62 6H76" }],
-        ["path", { class: "blade", d: blade }], ["circle", { class: "toe", cx: 38, cy: 30, r: 3.5 }]];
-    const moving = ["g", { class: "box moving" }, ...fork("M38 30L53 24").slice(2)];
-    const cross = ["g", { class: "cross" }, ["path", { class: "casing", d: "M16 21l10 10m0 -10l-10 10" }],
-        ["path", { class: "line", d: "M16 21l10 10m0 -10l-10 10" }]];
-    const items = [
-        [[["path", rail], ends, train("c0", 42), tag("here", "c0", "T1", 42)],
-            "a train on a segment, with its name; the point is its head"],
-        [[["path", rail], held("M8 26H30"), ends, tag("held", "c0", "T1", 22)],
-            "the end of a segment at one box, held by T1"],
-        [[held("M8 26H76"), ends, tag("held", "c0", "T1", 42)], "held by T1 at both ends: T1 may enter it"],
-        [[["path", { class: "rail", d: "M8 22H76" }], ring], "a box locked for T1, and the way it is locked for"],
-        [[fork("M38 30H56")], "points, with the branch they connect"],
-        [[moving], "points that move connect nothing"],
-        [[["path", rail], held("M8 26H76"), ends, cross, tag("held", "c0", "T1", 56)],
-            "a train was refused this end, which T1 holds; above its name it says so, until it asks again"],
-    ];
-    const add = (parent, [tagName, attributes, ...rest]) => {
-        const made = make(tagName, attributes, parent);
-        for (const part of rest) {
-            if (typeof part === "string") made.textContent = part;
-            else add(made, part);
-        }
-    };
-    for (const [drawing, meaning] of items) {
-        const item = element("li");
-        const svg = make("svg", { viewBox: "0 0 84 40", "aria-hidden": "true" }, item);
-        drawing.forEach(part => add(svg, part));
-        item.append(element("span", meaning));
-        list.append(item);
     }
 }
 

@@ -1,6 +1,5 @@
 "use strict";
-// Reads the text of `relis tables` and the report. The first line that isn't as expected is told in a sentence, the
-// same that check.awk says for the script's status.
+// Reads the text of `relis tables` and the report. The first line that isn't as expected is told in a sentence.
 
 const MOST = { boxes: 128, segments: 256, trains: 32, steps: 64, tries: 1000, count: 1000000, moves: 100000 };
 const ARMS = { buffer: 1, joint: 2, point: 3, crossing: 4 };
@@ -17,7 +16,17 @@ const MOVES = {
     bar: "TRAIN BOX TRAIN",
 };
 
+const VERBS = Object.keys(MOVES);
+const FORMS = Object.fromEntries(VERBS.map(verb => [verb, MOVES[verb].split(" ")]));
+const NONE = -1;
+const REPORT_HEAD = 2;  // the lines of a report before its first move
+
 class Fault extends Error {}
+
+// A text as the scripts clean it: what no valid text has becomes "?", and CR becomes "!".
+function clean(text) {
+    return text.replace(/\r/g, "!").replace(/[^\n !"-;=-~]/g, "?");
+}
 
 class Lines {
     constructor(what, text) {
@@ -37,8 +46,12 @@ class Lines {
     // The words of the next line, and the line itself; of the text's end, one word that no line has.
     next() {
         this.number++;
-        if (this.number === this.broken) this.fail("a line feed at the end of the line");
         this.line = this.lines[this.number - 1];
+        if (this.line !== undefined && this.line.endsWith("!")) {
+            this.lines[this.number - 1] = this.line.slice(0, -1);
+            this.fail("lines that end in LF alone, not in CR LF");
+        }
+        if (this.number === this.broken) this.fail("a line feed at the end of the line");
         if (this.line === undefined) return [null];
         return this.line.length > 200 ? [this.line] : this.line.split(" ");
     }
@@ -173,10 +186,58 @@ function readTables(text) {
     }
 }
 
-// The report's moves: each has its verb, and the numbers of the train, box, segments and other train that it names.
+// The moves of a report, each as numbers of its verb, train, box, segments and other train, or a side.
+class Moves {
+    constructor() {
+        this.length = 0;
+        this.data = new Int16Array(6 * 64);
+    }
+
+    push(move) {
+        if (6 * this.length === this.data.length) {
+            const longer = new Int16Array(2 * this.data.length);
+            longer.set(this.data);
+            this.data = longer;
+        }
+        const { verb, train, box, segments, by, right } = move;
+        const { data } = this;
+        const i = 6 * this.length++;
+        data[i] = VERBS.indexOf(verb);
+        data[i + 1] = train;
+        data[i + 2] = box;
+        data[i + 3] = segments.length > 0 ? segments[0] : NONE;
+        data[i + 4] = segments.length > 1 ? segments[1] : NONE;
+        data[i + 5] = verb === "settle" ? Number(right) : by;
+    }
+
+    verb(i) {
+        return VERBS[this.data[6 * i]];
+    }
+
+    train(i) {
+        return this.data[6 * i + 1];
+    }
+
+    at(i) {
+        if (i < 0 || i >= this.length) return undefined;
+        const { data } = this;
+        const at = 6 * i;
+        const verb = VERBS[data[at]], s = data[at + 3], s2 = data[at + 4], last = data[at + 5];
+        const segments = s === NONE ? [] : s2 === NONE ? [s] : [s, s2];
+        const settles = verb === "settle";
+        return { verb, train: data[at + 1], box: data[at + 2], segments, by: settles ? NONE : last,
+            right: settles && last === 1 };
+    }
+}
+
+function noRun() {
+    return { moves: new Moves(), outcomes: [], tries: 0 };
+}
+
+// The report's moves, and how each train fared.
 function readReport(text, net) {
     const lines = new Lines("report", text);
-    const run = { moves: [], outcomes: [] };
+    const run = noRun();
     lines.next();
     if (lines.line !== "relis report 1") lines.fail('"relis report 1"');
     let words = lines.next();
@@ -208,30 +269,70 @@ function readReport(text, net) {
 
     function readMove() {
         const verb = words[0];
-        const form = MOVES[verb].split(" ");
+        const form = FORMS[verb];
         if (words.length !== form.length + 1) lines.fail(`"${verb} ${MOVES[verb]}"`);
-        const move = { verb, train: -1, box: -1, segments: [], by: -1, right: false };
-        form.forEach((role, i) => {
-            const word = words[i + 1];
+        const move = { verb, train: NONE, box: NONE, segments: [], by: NONE, right: false };
+        for (let i = 0; i < form.length; i++) {
+            const role = form[i], word = words[i + 1];
             if (role === "TRAIN" && i === 0) move.train = numberOf(net.trainNumber, word, "train");
             else if (role === "TRAIN") move.by = numberOf(net.trainNumber, word, "train");
             else if (role === "BOX") move.box = numberOf(net.boxNumber, word, "box");
             else if (role === "SEGMENT") move.segments.push(numberOf(net.segmentNumber, word, "segment"));
             else if (word === "left" || word === "right") move.right = word === "right";
             else lines.fail(`left or right in place of ${word}`);
-        });
-        if (move.box >= 0) move.segments.forEach(endsThere, move);
+        }
+        if (move.box !== NONE) move.segments.forEach(segment => endsThere(segment, move.box));
         if (move.segments.length === 2 && move.segments[0] === move.segments[1]) lines.fail("two different segments");
         return move;
     }
 
-    function endsThere(segment) {
-        if (net.boxes[this.box].arms.includes(segment)) return;
-        lines.fail(`a segment that ends at ${net.boxes[this.box].name} in place of ${net.segments[segment].name}`);
+    function endsThere(segment, box) {
+        if (net.boxes[box].arms.includes(segment)) return;
+        lines.fail(`a segment that ends at ${net.boxes[box].name} in place of ${net.segments[segment].name}`);
     }
 
     function numberOf(numbers, word, what) {
-        if (!numbers.has(word)) lines.fail(`a ${what} of the network in place of ${word.slice(0, 20)}`);
-        return numbers.get(word);
+        const number = numbers.get(word);
+        if (number === undefined) lines.fail(`a ${what} of the network in place of ${word.slice(0, 20)}`);
+        return number;
     }
+}
+
+// The guards by their numbers: what a move that breaks one says that isn't so.
+const GUARDS = [
+    "the segment has no end at that box", "the segment is held there by another train",
+    "the segment has no end at that box", "the train doesn't hold the segment there",
+    "the train stands on what it gives back", "the two segments aren't two that end at the box",
+    "another train has the lock", "the train doesn't hold both segments at the box",
+    "no side of the box connects the two segments", "the train hasn't the lock", "the train stands across the box",
+    "the box has no lock, or its points move already", "the points connect the locked way already",
+    "the box has no lock, or its points don't move", "that side doesn't connect the locked way",
+    "that isn't the next step of the train's route", "the train is across a box already",
+    "the train doesn't hold the segment ahead at both ends", "the train hasn't the lock for that way",
+    "the points don't connect that way", "the train isn't across a box, or doesn't come from there",
+    "the segment has no end at that box", "the other train doesn't hold the segment there",
+    "the other train hasn't the lock", "the counts aren't those of the moves", "the fate isn't that of the moves",
+];
+
+// What the audit answered, in words, and the line that it speaks of, if it speaks of one.
+function readVerdict(text) {
+    if (!text) return { kind: "none", says: "not audited: nobody has judged this report", line: 0 };
+    const [, status, answer] = /^audited ([0-9]{1,3}) (.*)/.exec(text) || [];
+    const numbers = (answer || "").match(/[0-9]{1,9}/g) || [];
+    if (status === "0" && /^safe moves [0-9]+$/.test(answer)) {
+        return { kind: "safe", says: `audit: safe, ${count(Number(numbers[0]), "move")}`, line: 0 };
+    }
+    if (status === "7" && /^not safe [0-9]+ [0-9]+$/.test(answer)) {
+        const [line, guard] = numbers.map(Number);
+        const why = GUARDS[guard - 1] ? ": " + GUARDS[guard - 1] : "";
+        return { kind: "unsafe", says: `audit: not safe: line ${line}, guard ${guard}${why}`, line };
+    }
+    if (status === "3" && /^refused 19 report:[0-9]+$/.test(answer)) {
+        return { kind: "unsafe", says: `audit: line ${numbers[1]} isn't a line of a report here`, line: 0 };
+    }
+    return { kind: "none", says: `not audited: the audit answered "${(answer || text).trim().slice(0, 60)}"`, line: 0 };
+}
+
+function count(number, one, many = one + "s") {
+    return `${number.toLocaleString("en")} ${number === 1 ? one : many}`;
 }

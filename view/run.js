@@ -1,13 +1,12 @@
 "use strict";
 // What the moves of a report change, move by move, as the report says it: nothing is judged here. The state is an array
 // of numbers, and each move a few changes of it, so that the page can go to any move and back. A train waits from its
-// refusal until it asks again, or until what it was refused is given back.
+// refusal until it gets what it was refused, or gets on.
 
-const NONE = -1;
 const MOVING = 2;
 const OF_LOCK = 3;      // numbers for each lock: the train, the segments from and to
-const OF_TRAIN = 6;     // numbers for each train: see below
-const ON = 0, TO = 1, ACROSS = 2, MADE = 3, REFUSED = 4, WAIT = 5;
+const OF_TRAIN = 7;     // numbers for each train: see below
+const ON = 0, TO = 1, ACROSS = 2, MADE = 3, REFUSED = 4, WAIT = 5, TRIES = 6;
 
 class Play {
     constructor(net, run) {
@@ -19,18 +18,20 @@ class Play {
         this.state = new Int32Array(this.trains + OF_TRAIN * net.trains.length).fill(NONE);
         net.boxes.forEach((box, i) => { this.state[this.points + i] = box.right ? 1 : 0; });
         net.trains.forEach((train, i) => {
-            this.state.set([train.start, NONE, NONE, 0, 0, NONE], this.trains + OF_TRAIN * i);
+            this.state.set([train.start, NONE, NONE, 0, 0, NONE, 0], this.trains + OF_TRAIN * i);
             this.state.fill(i, 2 * train.start, 2 * train.start + 2);
         });
         this.at = 0;
-        this.changes = [];
+        this.changes = new Int32Array(1024);
+        this.changed = 0;
         this.first = new Uint32Array(run.moves.length + 1);
-        run.moves.forEach((move, i) => {
-            this.apply(move, i);
-            this.first[i + 1] = this.changes.length / 3;
-        });
-        this.changes = Int32Array.from(this.changes);
+        for (let i = 0; i < run.moves.length; i++) {
+            this.apply(run.moves.at(i), i);
+            this.first[i + 1] = this.changed / 3;
+        }
+        this.changes = this.changes.slice(0, this.changed);
         this.at = run.moves.length;
+        this.jams = this.findJams();
         this.go(0);
     }
 
@@ -69,35 +70,103 @@ class Play {
     }
 
     train(number) {
-        const [on, to, across, made, refused, wait] = this.state.subarray(this.trains + OF_TRAIN * number);
-        return { on, to, across, made, refused, wait };
+        const [on, to, across, made, refused, wait, tries] = this.state.subarray(this.trains + OF_TRAIN * number);
+        return { on, to, across, made, refused, wait, tries };
+    }
+
+    // Whether what a train was refused is still the other's.
+    isStillHeld({ verb, box, segments: [s], by }) {
+        return verb === "bar" ? this.lock(box).train === by : this.state[this.endAt(s, box)] === by;
+    }
+
+    // The trains that stand on a segment, or come from it. Of a right report that is one at most.
+    trainsOn(segment) {
+        const found = [];
+        for (let t = 0; t < this.net.trains.length; t++) {
+            const { on, to } = this.train(t);
+            if (on === segment || to === segment) found.push(t);
+        }
+        return found;
+    }
+
+    // Segments on which more than one train is, and boxes across which more than one goes.
+    collisions() {
+        const segments = new Map(), boxes = new Map();
+        const add = (places, place, train) => {
+            if (place !== NONE) places.set(place, (places.get(place) || []).concat(train));
+        };
+        this.net.trains.forEach((_, t) => {
+            const { on, to, across } = this.train(t);
+            add(segments, on, t);
+            add(segments, to, t);
+            add(boxes, across, t);
+        });
+        const several = places => [...places].filter(([, trains]) => trains.length > 1);
+        return { segments: several(segments), boxes: several(boxes) };
+    }
+
+    // The lists of spent trains of which each was last refused by the next, and the last by the first, with the number
+    // of moves after which that stood. Asked at the end.
+    findJams() {
+        const { net, run } = this;
+        const last = net.trains.map(() => NONE), since = net.trains.map(() => 0), moved = net.trains.map(() => true);
+        for (let i = 0; i < run.moves.length; i++) {
+            const verb = run.moves.verb(i), train = run.moves.train(i);
+            if (verb === "enter") moved[train] = true;
+            if (verb !== "refuse" && verb !== "bar") continue;
+            const { by } = run.moves.at(i);
+            if (moved[train] || last[train] !== by) since[train] = i + 1;
+            last[train] = by;
+            moved[train] = false;
+        }
+        const isSpent = t => run.outcomes[t]?.fate === "spent" && last[t] !== NONE;
+        const jams = [];
+        net.trains.forEach((_, first) => {
+            const trains = [first];
+            for (let t = last[first]; isSpent(first) && isSpent(t) && !trains.includes(t); t = last[t]) trains.push(t);
+            const closed = isSpent(first) && last[trains[trains.length - 1]] === first;
+            if (!closed || jams.some(jam => jam.trains.includes(first))) return;
+            jams.push({ trains, since: Math.max(...trains.map(t => since[t])) });
+        });
+        return jams;
     }
 
     set(index, value) {
         if (this.state[index] === value) return;
-        this.changes.push(index, this.state[index], value);
+        if (this.changed + 3 > this.changes.length) {
+            const longer = new Int32Array(2 * this.changes.length);
+            longer.set(this.changes);
+            this.changes = longer;
+        }
+        this.changes[this.changed++] = index;
+        this.changes[this.changed++] = this.state[index];
+        this.changes[this.changed++] = value;
         this.state[index] = value;
+    }
+
+    setThree(index, ...values) {
+        for (let i = 0; i < 3; i++) this.set(index + i, values[i]);
     }
 
     apply(move, number) {
         const { train, box, segments: [s, s2] } = move;
         const of = this.trains + OF_TRAIN * train;
         const lock = this.locks + OF_LOCK * box;
-        if (["reserve", "lock", "enter"].includes(move.verb)) this.set(of + WAIT, NONE);
+        this.countTry(move, of);
         switch (move.verb) {
         case "reserve":
             this.set(this.endAt(s, box), train);
+            this.got(move, "refuse", of);
             break;
         case "release":
             if (this.state[this.endAt(s, box)] === train) this.set(this.endAt(s, box), NONE);
-            this.free("refuse", move);
             break;
         case "lock":
-            [train, s, s2].forEach((value, i) => this.set(lock + i, value));
+            this.setThree(lock, train, s, s2);
+            this.got(move, "bar", of);
             break;
         case "unlock":
-            [0, 1, 2].forEach(i => this.set(lock + i, NONE));
-            this.free("bar", move);
+            this.setThree(lock, NONE, NONE, NONE);
             break;
         case "throw":
             this.set(this.points + box, MOVING);
@@ -106,7 +175,8 @@ class Play {
             this.set(this.points + box, move.right ? 1 : 0);
             break;
         case "enter":
-            [s, s2, box].forEach((value, i) => this.set(of + ON + i, value));
+            this.setThree(of + ON, s, s2, box);
+            this.set(of + WAIT, NONE);
             break;
         case "leave":
             if (this.state[of + TO] !== NONE) this.set(of + ON, this.state[of + TO]);
@@ -120,14 +190,18 @@ class Play {
         }
     }
 
-    // No train waits any longer for what was given back.
-    free(verb, { train, box, segments }) {
-        this.net.trains.forEach((_, number) => {
-            const index = this.trains + OF_TRAIN * number + WAIT;
-            const why = this.run.moves[this.state[index]];
-            const same = why && why.verb === verb && why.by === train && why.box === box;
-            if (same && why.segments[0] === segments[0]) this.set(index, NONE);
-        });
+    // An attempt begins when a train asks for the segment ahead at its near end.
+    countTry({ verb, train, box, segments: [s] }, of) {
+        if (verb !== "reserve" && verb !== "refuse") return;
+        const step = this.net.trains[train].steps[this.state[of + MADE]];
+        if (step && step.box === box && step.to === s) this.set(of + TRIES, this.state[of + TRIES] + 1);
+    }
+
+    // A train that gets what it was refused waits no longer.
+    got({ box, segments: [s] }, verb, of) {
+        const why = this.run.moves.at(this.state[of + WAIT]);
+        if (!why || why.verb !== verb || why.box !== box) return;
+        if (verb === "bar" || why.segments[0] === s) this.set(of + WAIT, NONE);
     }
 
     endAt(segment, box) {

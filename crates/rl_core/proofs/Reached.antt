@@ -11,7 +11,7 @@ use Rattle.rl_tables.specs.Kept.{IsLine}
 use Rattle.rl_tables.specs.Starts.{layout_of}
 use Rattle.rl_steps.specs.declared.mind.Mind.{Mind}
 use Rattle.rl_steps.specs.Step.{node_step}
-use Rattle.rl_steps.specs.State.{put}
+use Rattle.rl_steps.specs.State.{with_value}
 use Rattle.rl_steps.specs.Run.{IsRun, state}
 use Rattle.rl_steps.specs.Sound.{IsSound}
 use Rattle.rl_steps.specs.Turn.{next_place}
@@ -55,7 +55,7 @@ place_within core n reached there =
 next_within : (tables : Tables) (place : ℕ) → next_place tables place ≤ length tables.trains
 next_within tables place = omega arith
 
-put_within : (scans : ℕ → ℕ) (n place limit : ℕ) → place ≤ limit → (m : ℕ) → scans m ≤ limit → put scans n place m ≤ limit
+put_within : (scans : ℕ → ℕ) (n place limit : ℕ) → place ≤ limit → (m : ℕ) → scans m ≤ limit → with_value scans n place m ≤ limit
 put_within scans n place limit small m le =
     elim (cases_eq m n) [
       | inl same ↦ grind (arith, nat_tests)
@@ -65,7 +65,7 @@ put_within scans n place limit small m le =
 pub reached_advanced : (core : Core) (n : ℕ) → IsReached core → n < node_count (layout_of core.line) → IsReached (advanced core n)
 reached_advanced core n reached there =
     record {
-      drive = record reached.drive { scans = put reached.drive.scans n (next_place core.line (reached.drive.scans n)) };
+      drive = record reached.drive { scans = with_value reached.drive.scans n (next_place core.line (reached.drive.scans n)) };
       leads = leads_advanced core reached.drive n there reached.leads;
       sizes = sizes_advanced core n reached.sizes;
       places = λ m within. put_within reached.drive.scans n (next_place core.line (reached.drive.scans n)) (length core.line.trains)

@@ -46,12 +46,12 @@ use Rattle.rl_steps.specs.declared.mind.Mind.{Mind}
 use Rattle.rl_steps.specs.Numbers.{node_at}
 use Rattle.rl_steps.specs.Step.{node_step}
 use Rattle.rl_steps.specs.State.{event_at, next_stamp}
-use Rattle.rl_steps.specs.Run.{Fits, IsRun, state}
+use Rattle.rl_steps.specs.Run.{EventFits, IsRun, state}
 use Rattle.rl_steps.specs.Turn.{Drive}
 use Rattle.rl_steps.proofs.Options.{from_map, from_then}
 use Rattle.rl_core.specs.Cores.{Core, state_of, LeadsTo, HasSizes}
 use Rattle.rl_core.specs.Made.{made}
-use Rattle.rl_core.specs.Redoing.{Makes}
+use Rattle.rl_core.specs.Redoing.{IsMadeBy}
 use Rattle.rl_core.specs.Replays.{replayed, before, IsFirstMisfit}
 use Rattle.rl_core.proofs.Started.{past}
 use Rattle.rl_core.proofs.Onward.{fits_state, leads_on}
@@ -67,7 +67,7 @@ step_within core n w payload mind r is =
       | inr over ↦ absurd (let none : node_at (layout_of core.line) n ≡ None = past (layout_of core.line) n over in let some = node.1 in cc)
     ]
 
-pub fits_makes : (core : Core) (e : Event) → HasSizes core → Fits core.line (state_of core) e → (r : ℕ × Mind) × Makes core e r.0 r.1
+pub fits_makes : (core : Core) (e : Event) → HasSizes core → EventFits core.line (state_of core) e → (r : ℕ × Mind) × IsMadeBy core e r.0 r.1
 fits_makes core e sizes fits =
     let made = λ (was : ℕ) (r : ℕ × Mind). event_at e.node.0 (next_stamp ((state_of core).clocks e.node.0) was) e.word.0 was r.0 in
     let step = λ (was : ℕ). node_step core.line e.node.0 ((state_of core).minds e.node.0) e.word.0 (payload_in was) in
@@ -89,13 +89,13 @@ fits_makes core e sizes fits =
       },
     )
 
-pub makes_fits : (core : Core) (e : Event) (payload : ℕ) (mind : Mind) → Makes core e payload mind → Fits core.line (state_of core) e
+pub makes_fits : (core : Core) (e : Event) (payload : ℕ) (mind : Mind) → IsMadeBy core e payload mind → EventFits core.line (state_of core) e
 makes_fits core e payload mind makes =
-    let P : Event → Type 0 = λ x. Fits core.line (state_of core) x in
+    let P : Event → Type 0 = λ x. EventFits core.line (state_of core) x in
     subst P (sym makes.event) (fits_state core e.node.0 e.word.0 e.was payload mind makes.found.was makes.step)
 
 -- the core after an event that fits
-pub makes_leads : (core : Core) (drive : Drive) (e : Event) (payload : ℕ) (mind : Mind) → HasSizes core → Makes core e payload mind → LeadsTo drive core
+pub makes_leads : (core : Core) (drive : Drive) (e : Event) (payload : ℕ) (mind : Mind) → HasSizes core → IsMadeBy core e payload mind → LeadsTo drive core
     → LeadsTo (record drive { events = e ∷ drive.events }) (made core e.node.0 e.word.0 e.was payload mind)
 makes_leads core drive e payload mind sizes makes leads =
     let P : Event → Type 0 = λ x. LeadsTo (record drive { events = x ∷ drive.events }) (made core e.node.0 e.word.0 e.was payload mind) in
@@ -128,7 +128,7 @@ split_at events i = ap reverse (halves events i) ∙ reverse-append (take i even
     halves (x ∷ xs) (suc i) = ap (λ (l : List Event). x ∷ l) (halves xs i)
 
 fits_before : (tables : Tables) (tries : ℕ) (events : List Event) (i : ℕ) (e : Event) → slice_get events i ≡ Some e
-    → IsRun tables tries (before events (i + 1)) → Fits tables (state tables tries (before events i)) e
+    → IsRun tables tries (before events (i + 1)) → EventFits tables (state tables tries (before events i)) e
 fits_before tables tries events i e there run =
     let P : List Event → Type 0 = λ l. IsRun tables tries l in
     let both : IsRun tables tries (e ∷ before events i) = subst P (before_more events i e there) run in
@@ -192,12 +192,12 @@ one_more events i d core lt leads =
 
 pub first_misfit : (tables : Tables) (tries : ℕ) (items events : List Event) (i : ℕ) (d : Event) (core : Core) (answer : Bool) → items ≡ events
     → i < length items → LeadsTo (replayed (take i items)) core → core.line ≡ tables → core.tries ≡ tries → answer ≡ false
-    → (Fits core.line (state_of core) (get_or items i d) → IsTrue answer) → IsFirstMisfit tables tries events i
+    → (EventFits core.line (state_of core) (get_or items i d) → IsTrue answer) → IsFirstMisfit tables tries events i
 first_misfit tables tries items events i d core answer are lt leads line is fails fits =
     let P : Tables → Type 0 = λ t. IsFirstMisfit t tries events i in
     let Q : ℕ → Type 0 = λ k. IsFirstMisfit core.line k events i in
     let R : List Event → Type 0 = λ l. IsFirstMisfit core.line core.tries l i in
-    let misfit : Fits core.line (state_of core) (get_or items i d) → ⊥ = λ fit. (let yes = fits fit in cc) in
+    let misfit : EventFits core.line (state_of core) (get_or items i d) → ⊥ = λ fit. (let yes = fits fit in cc) in
     let here : IsFirstMisfit core.line core.tries items i = record {
       event = get_or items i d;
       there = slice_get-get_or items i d lt;

@@ -12,16 +12,18 @@ use Rattle.rl_tables.specs.declared.table.Tables.{Tables}
 use Rattle.rl_tables.specs.Starts.{layout_of}
 use Rattle.rl_steps.specs.declared.mind.Mind.{Mind}
 use Rattle.rl_steps.specs.Step.{is_ready}
-use Rattle.rl_steps.specs.State.{put}
+use Rattle.rl_steps.specs.State.{with_value}
 use Rattle.rl_steps.specs.Turn.{Drive, turn_of, answer_of, events_of_target, answer_of_target, target_in, scanned, next_place}
 use Rattle.rl_steps.proofs.Options.{get_set_same, get_set_other}
-use Rattle.rl_core.specs.declared.look.Glance.{Glance}
-use Rattle.rl_core.specs.declared.look.Glance.TheVariants as glances
+use Rattle.rl_core.specs.declared.speed.Glance.{Glance}
+use Rattle.rl_core.specs.declared.speed.Glance.TheVariants as glances
 use Rattle.rl_core.specs.declared.look.Look.{Look}
 use Rattle.rl_core.specs.declared.look.Look.TheVariants.{Rests, Idles, Steps}
 use Rattle.rl_core.specs.Cores.{Core, state_of, LeadsTo, HasSizes}
 use Rattle.rl_core.specs.Made.{event_in, made, advanced}
-use Rattle.rl_core.specs.Looks.{IsLook, IsGlance, IsNext, look_of, ready_of, after_look, answer_to, after_turn}
+use Rattle.rl_core.specs.Looks.{IsLook, after_look, answer_to, after_turn}
+use Rattle.rl_core.specs.Speed.{IsGlance, IsNext, look_of, ready_of}
+use Rattle.rl_core.specs.Turns.{IsTurn, IsIdleTurn}
 use Rattle.rl_core.proofs.Onward.{leads_on}
 
 -- the events after the look
@@ -64,7 +66,7 @@ sizes_advanced core n sizes =
 
 -- a box that goes on to its next place
 pub leads_advanced : (core : Core) (drive : Drive) (n : ℕ) → n < node_count (layout_of core.line) → LeadsTo drive core
-    → LeadsTo (record drive { scans = put drive.scans n (next_place core.line (drive.scans n)) }) (advanced core n)
+    → LeadsTo (record drive { scans = with_value drive.scans n (next_place core.line (drive.scans n)) }) (advanced core n)
 leads_advanced core drive n there leads =
     let here : slice_get core.scans n ≡ Some (drive.scans n) = leads.scans n there in
     let at : slice_index_or core.scans n 0 ≡ drive.scans n = get_or_from_slice_get core.scans n (drive.scans n) 0 here in
@@ -81,10 +83,10 @@ leads_advanced core drive n there leads =
       events = leads.events;
     }
   where
-    put_same : (f : ℕ → ℕ) (n v : ℕ) → put f n v n ≡ v
+    put_same : (f : ℕ → ℕ) (n v : ℕ) → with_value f n v n ≡ v
     put_same f n v = grind (arith, nat_tests)
 
-    put_other : (f : ℕ → ℕ) (n v m : ℕ) → (m ≡ n → ⊥) → put f n v m ≡ f m
+    put_other : (f : ℕ → ℕ) (n v m : ℕ) → (m ≡ n → ⊥) → with_value f n v m ≡ f m
     put_other f n v m other = rw (ne_eqb m n other) refl
 
 -- the turn of the definition, by what the node sees
@@ -99,7 +101,10 @@ answer_by core drive n scan look leads same is = rw leads.state (answer_looked c
 
 leads_by : (ready : Bool) (core : Core) (drive : Drive) (n scan : ℕ) (look : Look) → HasSizes core → n < node_count (layout_of core.line)
     → LeadsTo drive core → IsLook core.line (state_of core) n scan look → LeadsTo
-    (record { events = looked core drive.events n look; scans = if ready then put drive.scans n (next_place core.line (drive.scans n)) else drive.scans })
+    (record {
+      events = looked core drive.events n look;
+      scans = if ready then with_value drive.scans n (next_place core.line (drive.scans n)) else drive.scans;
+    })
     (if ready then advanced (after_look core n look) n else after_look core n look)
 leads_by false core drive n scan look sizes there leads is = leads_looked core drive n scan look sizes there leads is
 leads_by true core drive n scan Rests sizes there leads is = leads_advanced core drive n there leads
@@ -157,25 +162,18 @@ events_kept core n look = by (is_ready ((state_of core).minds n)) look
     by true (Steps w was payload mind) = omega arith
 
 -- a turn by its look, from any run that leads to the core
-pub record IsTurned (core new : Core) (n : ℕ) (answer : Turn) : Type 0 where
-  pub turned : (d : Drive) → LeadsTo d core → LeadsTo (turn_of core.line core.tries d n) new
-  pub answer_is : (d : Drive) → LeadsTo d core → answer ≡ answer_of core.line core.tries d n
-  pub line : new.line ≡ core.line
-  pub tries : new.tries ≡ core.tries
-  pub events : new.events ≤ core.events + 1
-
 pub turned_by : (core mid new : Core) (n : ℕ) (look : Look) (ready : Bool) (answer : Turn)
     → HasSizes core → n < node_count (layout_of core.line)
     → IsLook core.line (state_of core) n (slice_index_or core.scans n 0) look
     → mid ≡ after_look core n look → ready ≡ is_ready ((state_of core).minds n) → new ≡ (if ready then advanced mid n else mid)
-    → answer ≡ answer_to core n look → IsTurned core new n answer
+    → answer ≡ answer_to core n look → IsTurn core new n answer
 turned_by core mid new n look ready answer sizes there is mid_is ready_is new_is says =
     let after : new ≡ after_turn core n look = turned_is core mid new n look ready mid_is ready_is new_is in
     let place : (d : Drive) → LeadsTo d core → d.scans n ≡ slice_index_or core.scans n 0 =
     λ d leads. sym (get_or_from_slice_get core.scans n (d.scans n) 0 (leads.scans n there)) in
     record {
       turned = λ d leads. rw after (leads_turned core d n (slice_index_or core.scans n 0) look sizes there leads (place d leads) is);
-      answer_is = λ d leads. says ∙ sym (answer_by core d n (slice_index_or core.scans n 0) look leads (place d leads) is);
+      answer = λ d leads. says ∙ sym (answer_by core d n (slice_index_or core.scans n 0) look leads (place d leads) is);
       line = ap (λ (x : Core). x.line) after ∙ line_kept core n look;
       tries = ap (λ (x : Core). x.tries) after ∙ tries_kept core n look;
       events = rw after (events_kept core n look);
@@ -194,20 +192,34 @@ same_events core events n (glances.Scans w was next) = refl
 
 pub passed_by : (core new : Core) (n : ℕ) (glance : Glance) (answer : Turn) → HasSizes core → n < node_count (layout_of core.line)
     → IsGlance core.line (state_of core) n (slice_index_or core.scans n 0) glance → new ≡ (if ready_of glance then advanced core n else core)
-    → answer ≡ answer_to core n (look_of glance) → IsTurned core new n answer
+    → answer ≡ answer_to core n (look_of glance) → IsTurn core new n answer
 passed_by core new n glance answer sizes there is new_is says =
     turned_by core core new n (look_of glance) (ready_of glance) answer sizes there is.look (same_core core n glance) is.ready new_is says
 
-pub no_event : (core : Core) (n : ℕ) (glance : Glance) → n < node_count (layout_of core.line) → IsGlance core.line (state_of core) n (slice_index_or core.scans n 0) glance
+no_event : (core : Core) (n : ℕ) (glance : Glance) → n < node_count (layout_of core.line)
+    → IsGlance core.line (state_of core) n (slice_index_or core.scans n 0) glance
     → (d : Drive) → LeadsTo d core → (turn_of core.line core.tries d n).events ≡ d.events
 no_event core n glance there is d leads =
     let place : d.scans n ≡ slice_index_or core.scans n 0 = sym (get_or_from_slice_get core.scans n (d.scans n) 0 (leads.scans n there)) in
     ap (λ (x : Drive). x.events) (turn_looked core d n (slice_index_or core.scans n 0) (look_of glance) leads place is.look)
     ∙ same_events core d.events n glance
 
-pub same_count : (core : Core) (n : ℕ) (ready : Bool) → (let mine : Core = if ready then advanced core n else core in mine.events) ≡ core.events
+same_count : (core : Core) (n : ℕ) (ready : Bool) → (let mine : Core = if ready then advanced core n else core in mine.events) ≡ core.events
 same_count core n false = refl
 same_count core n true = refl
+
+pub idle_by : (core new : Core) (n : ℕ) (glance : Glance) (answer : Turn) → HasSizes core → n < node_count (layout_of core.line)
+    → IsGlance core.line (state_of core) n (slice_index_or core.scans n 0) glance → new ≡ (if ready_of glance then advanced core n else core)
+    → answer ≡ answer_to core n (look_of glance) → IsIdleTurn core new n
+idle_by core new n glance answer sizes there is new_is says =
+    let done = passed_by core new n glance answer sizes there is new_is says in
+    record {
+      turned = done.turned;
+      no_event = no_event core n glance there is;
+      line = done.line;
+      tries = done.tries;
+      events = rw new_is (same_count core n (ready_of glance));
+    }
 
 -- the place that a glance of a ready box tells
 pub next_told : (tables : Tables) (scan : ℕ) (glance : Glance) (w : WordNo) (was next : ℕ) → glance ≡ glances.Scans w was next

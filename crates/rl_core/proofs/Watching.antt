@@ -1,5 +1,5 @@
 -- What is kept of the nodes stays right, and what a glance by it tells.
-use Rattle.std.proofs.Common.{◌≡◌, ℕ, ◌<◌, true, false, List, length, slice_set, slice_get, slice_index_or, replicate, Option, Some, None, is_some, refl, sym, ap, subst, ◌∙◌, inl, inr, arith}
+use Rattle.std.proofs.Common.{◌≡◌, ℕ, ◌<◌, Bool, true, false, List, length, slice_set, slice_get, slice_index_or, replicate, Option, Some, None, is_some, refl, sym, ap, subst, ◌∙◌, inl, inr, arith}
 use Rattle.std.proofs.lemmas.Bool.{cases_eq}
 use Rattle.std.proofs.lemmas.Bool.Decides.{nat_tests}
 use Rattle.std.proofs.lemmas.List.{length-set, length-replicate, get_or-set_same, get_or-set_other, get_or-replicate}
@@ -20,18 +20,19 @@ use Rattle.rl_box.specs.Glance.{may_step}
 use Rattle.rl_box.specs.Steps.{box_step}
 use Rattle.rl_steps.specs.declared.mind.Mind.{Mind}
 use Rattle.rl_steps.specs.declared.mind.Mind.TheVariants.{Train, Track, Box, Machine}
+use Rattle.rl_steps.specs.Numbers.{node_at}
 use Rattle.rl_steps.specs.State.{CoreState}
 use Rattle.rl_steps.specs.Turn.{next_place}
 use Rattle.rl_steps.specs.Step.{is_ready, has_nothing}
-use Rattle.rl_core.specs.declared.look.Glance.TheVariants as glances
+use Rattle.rl_core.specs.declared.speed.Glance.TheVariants as glances
 use Rattle.rl_core.specs.declared.look.Look.{Look}
-use Rattle.rl_core.specs.declared.look.Look.TheVariants.{Rests, Idles}
-use Rattle.rl_core.specs.declared.watches.Watch.{Watch}
-use Rattle.rl_core.specs.declared.watches.Watch.TheVariants as watches
-use Rattle.rl_core.specs.declared.watches.Rare.TheVariants as rares
+use Rattle.rl_core.specs.declared.look.Look.TheVariants.{Rests, Idles, Steps}
+use Rattle.rl_core.specs.declared.speed.Watch.{Watch}
+use Rattle.rl_core.specs.declared.speed.Watch.TheVariants as watches
+use Rattle.rl_core.specs.declared.speed.Rare.TheVariants as rares
 use Rattle.rl_core.specs.Cores.{Core, state_of, HasSizes}
-use Rattle.rl_core.specs.Looks.{IsLook, IsGlance}
-use Rattle.rl_core.specs.Watches.{WatchesWord, IsWatch, AreWatches}
+use Rattle.rl_core.specs.Looks.{IsLook}
+use Rattle.rl_core.specs.Speed.{WatchesWord, IsWatch, AreWatches, IsGlance, waits_of, watch_by, watch_scanning}
 use Rattle.rl_core.proofs.Looking.{Looked}
 
 -- at the start every node has to look closely
@@ -65,22 +66,26 @@ watches_kept tables minds ws n watch there are is = watches_set tables minds min
 pub watches_put : (tables : Tables) (minds : List Mind) (ws : List Watch) (n : ℕ) (mind : Mind) → n < node_count (layout_of tables)
     → AreWatches tables minds ws → AreWatches tables (slice_set minds n mind) (slice_set ws n (watches.Rarely rares.Closely))
 watches_put tables minds ws n mind there are =
-    watches_set tables minds (slice_set minds n mind) ws n (watches.Rarely rares.Closely) there are (λ m other. get_or-set_other minds n m mind (Machine record {}) other) tt
+    watches_set tables minds (slice_set minds n mind) ws n (watches.Rarely rares.Closely) there are
+    (λ m other. get_or-set_other minds n m mind (Machine record {}) other) tt
 
--- a node that has no step where it looks, wherever it scans
-pub watch_idles : (core : Core) (n : ℕ) (seen : Look) (w : WordNo) (was : ℕ) → HasSizes core → seen ≡ Idles w was
-    → ((scan : ℕ) → IsLook core.line (state_of core) n scan seen)
-    → is_ready ((state_of core).minds n) ≡ false → WatchesWord core.line n ((state_of core).minds n) w.0 was
-watch_idles core n seen w was sizes is looks unready =
-    let look : (scan : ℕ) → IsLook core.line (state_of core) n scan (Idles w was) =
-    λ scan. subst (λ (l : Look). IsLook core.line (state_of core) n scan l) is (looks scan) in
-    let within : w.0 < length core.words = slice_get_within core.words w.0 was (look 0).0.word in
-    record { target = λ scan. (look scan).0.target; within = omega (arith, sizes.words); none = (look 0).1; unready = unready }
+-- what is kept of a node that isn't a ready box is right, by what it saw wherever it scans
+pub watch_seen : (core : Core) (n : ℕ) (look : Look) → HasSizes core → is_ready ((state_of core).minds n) ≡ false
+    → ((scan : ℕ) → IsLook core.line (state_of core) n scan look) → IsWatch core.line n ((state_of core).minds n) (watch_by look)
+watch_seen core n Rests sizes unready looks = (looks, unready)
+watch_seen core n (Idles w was) sizes unready looks =
+    let within : w.0 < length core.words = slice_get_within core.words w.0 was (looks 0).0.word in
+    record { target = λ scan. (looks scan).0.target; within = omega (arith, sizes.words); none = (looks 0).1; unready = unready }
+watch_seen core n (Steps w was payload mind) sizes unready looks = tt
 
-pub watch_rests : (core : Core) (n : ℕ) (seen : Look) → seen ≡ Rests → ((scan : ℕ) → IsLook core.line (state_of core) n scan seen)
-    → is_ready ((state_of core).minds n) ≡ false → IsWatch core.line n ((state_of core).minds n) (watches.Rarely rares.Rests)
-watch_rests core n seen is looks unready =
-    (λ scan. subst (λ (l : Look). IsLook core.line (state_of core) n scan l) is (looks scan), unready)
+-- and of a ready box
+pub watch_box : (tables : Tables) (n : ℕ) (mind : Mind) (b : BoxId) (m : BoxMind) → node_at (layout_of tables) n ≡ Some (nodes.Box b) → mind ≡ Box m
+    → is_ready mind ≡ true → IsWatch tables n mind (watch_scanning b (is_some m.waiting))
+watch_box tables n mind b m at is ready = by (is_some m.waiting) (sym (ap waits_of is))
+  where
+    by : (waits : Bool) → waits ≡ waits_of mind → IsWatch tables n mind (watch_scanning b waits)
+    by true same = (at, ready, same)
+    by false same = (at, ready, same)
 
 -- the word that is watched is as it was
 pub glanced_at : (core : Core) (n scan : ℕ) (w : WordNo) (was seen : ℕ) → WatchesWord core.line n ((state_of core).minds n) w.0 was

@@ -1,5 +1,6 @@
 -- A core as code keeps it, in tables, and the state and the run that these tables stand for.
 use Rattle.std.specs.Prelude.{◌≡◌, ℕ, ◌<◌, ◌≤◌, List, length, slice_get, slice_index_or, Some}
+use Rattle.rl_base.specs.Tries.{AreFewTries}
 use Rattle.rl_base.specs.Layout.{word_count, node_count}
 use Rattle.rl_tables.specs.declared.table.Tables.{Tables}
 use Rattle.rl_tables.specs.Kept.{IsLine}
@@ -51,4 +52,4 @@ pub record IsReached (core : Core) : Type 0 where
   pub places : (n : ℕ) → n < node_count (layout_of core.line) → drive.scans n ≤ length core.line.trains
   pub line : IsLine core.line
   pub some_tries : 1 ≤ core.tries
-  pub few_tries : core.tries ≤ 1000
+  pub few_tries : AreFewTries core.tries

@@ -2,7 +2,8 @@ pub mod Cores
 pub mod Made
 pub mod Starts
 pub mod Looks
-pub mod Watches
+pub mod Turns
+pub mod Speed
 pub mod Reports
 pub mod Worlds
 pub mod Redoing

@@ -16,7 +16,7 @@ pub record Finds (core : Core) (e : Event) : Type 0 where
   pub was : slice_get core.words e.word.0 ≡ Some e.was
 
 -- its node makes it by a step to this payload and this mind
-pub record Makes (core : Core) (e : Event) (payload : ℕ) (mind : Mind) : Type 0 where
+pub record IsMadeBy (core : Core) (e : Event) (payload : ℕ) (mind : Mind) : Type 0 where
   pub found : Finds core e
   pub step : node_step core.line e.node.0 ((state_of core).minds e.node.0) e.word.0 (payload_in e.was)
       ≡ Some (payload, mind)

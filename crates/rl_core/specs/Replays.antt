@@ -2,7 +2,7 @@
 use Rattle.std.specs.Prelude.{◌≡◌, ℕ, List, reverse, take, slice_get, Some}
 use Rattle.rl_record.specs.declared.event.Event.{Event}
 use Rattle.rl_tables.specs.declared.table.Tables.{Tables}
-use Rattle.rl_steps.specs.Run.{Fits, IsRun, state}
+use Rattle.rl_steps.specs.Run.{EventFits, IsRun, state}
 use Rattle.rl_steps.specs.Turn.{Drive}
 
 -- the events as a run, which has the newest first, with each box at its first scan place
@@ -18,4 +18,4 @@ pub record IsFirstMisfit (tables : Tables) (tries : ℕ) (events : List Event) (
   pub event : Event
   pub there : slice_get events i ≡ Some event
   pub before_is : IsRun tables tries (before events i)
-  pub misfit : Fits tables (state tables tries (before events i)) event → ⊥
+  pub misfit : EventFits tables (state tables tries (before events i)) event → ⊥

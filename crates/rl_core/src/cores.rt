@@ -1,25 +1,25 @@
 ghost use Rattle.std.specs.Prelude.{◌≡◌, length, ◌+◌, ◌<◌, ◌≤◌, ◌^◌, slice_get, slice_set, slice_index_or, Some, IfOk};
+ghost use Rattle.rl_base.specs.Tries.{AreFewTries};
 ghost use Rattle.rl_base.specs.Layout.{node_count, word_count};
 ghost use Rattle.rl_words.specs.Stamps.{payload_in, stamp_in};
 ghost use Rattle.rl_tables.specs.Starts.{layout_of};
 ghost use Rattle.rl_steps.specs.Step.{node_step};
-ghost use Rattle.rl_steps.specs.State.{next_stamp};
-ghost use Rattle.rl_steps.specs.Turn.{start_drive, next_place};
+ghost use Rattle.rl_steps.specs.Held.{HasMind};
+ghost use Rattle.rl_steps.specs.Turn.{start_drive};
 ghost use Rattle.rl_tables.specs.Kept.{IsLine};
 ghost use Rattle.rl_steps.specs.Sound.{IsSound};
 ghost use Rattle.rl_core.specs.Cores.{state_of, LeadsTo, HasSizes, IsReached};
 ghost use Rattle.rl_core.specs.Made.{event_in, put_in, made, advanced};
-ghost use Rattle.rl_core.specs.Watches.{IsWatch};
+ghost use Rattle.rl_core.specs.Speed.{IsWatch};
 
-use crate::starts::{no_watches, start_minds, zeros};
-use crate::watches::{Rare, Watch};
+use crate::speed::{Rare, Watch, no_watches};
+use crate::starts::{start_minds, zeros};
 use rl_base::{NoMemory, NodeNo, WordNo};
 use rl_record::Event;
-use rl_steps::{Mind, sound_runs, start_words};
+use rl_steps::{Mind, next_place, next_stamp, sound_runs, start_words};
 use rl_tables::Line;
-use rl_words::{stamp_of, word_of};
+use rl_words::word_of;
 use std::alloc::Global;
-use std::cmp::max;
 use std::marker::Model;
 
 /// All words of a line, the minds and clocks of its nodes, and the places at which its boxes scan. Contracts see it
@@ -38,7 +38,7 @@ pub struct Core<'a> {
 
 impl<'a> Model for Core<'a> {
     ghost use Rattle.rl_core.specs.Cores.{Core, IsReached};
-    ghost use Rattle.rl_core.specs.Watches.{AreWatches};
+    ghost use Rattle.rl_core.specs.Speed.{AreWatches};
 
     ghost Value = { Core };
 
@@ -68,7 +68,7 @@ impl<'a> Core<'a> {
     /// each box at its first scan place.
     pub fn new(alloc: Global, line: &'a Line, tries: u32) -> Result<Core<'a>, NoMemory>
         requires some_tries { 1 ≤ tries }
-        requires few_tries { tries ≤ 1000 }
+        requires few_tries { AreFewTries tries }
         ensures start { IfOk result (LeadsTo start_drive) }
         ensures line { IfOk result (λ core. core.line ≡ line.now) }
         ensures tries { IfOk result (λ core. core.tries ≡ tries) }
@@ -134,38 +134,20 @@ impl<'a> Core<'a> {
         self.minds.as_slice()
     }
 
-    /// The mind of the node.
-    pub(crate) fn mind_at(&self, n: NodeNo) -> &Mind
+    /// The mind in the table.
+    fn mind_at(&self, n: NodeNo) -> &Mind
         requires { n.0 < length self.now.minds }
         ensures { slice_get self.now.minds n.0 ≡ Some result.now }
     {
         &self.minds[n.0 as usize]
     }
 
-    /// The place at which the box of the node scans.
-    pub(crate) fn scan_at(&self, n: NodeNo) -> u32
+    /// The scan place in the table.
+    fn scan_at(&self, n: NodeNo) -> u32
         requires { n.0 < length self.now.scans }
         ensures { slice_get self.now.scans n.0 ≡ Some result }
     {
         self.scans[n.0 as usize]
-    }
-
-    /// What is kept of the node while its mind stays.
-    #[inline(always)]
-    pub(crate) fn watch(&self, n: NodeNo) -> Watch
-        requires { n.0 < node_count (layout_of self.now.line) }
-        ensures { IsWatch self.now.line n.0 ((state_of self.now).minds n.0) result }
-    {
-        self.watches[n.0 as usize]
-    }
-
-    /// Keeps a watch of the node, which is right of its mind.
-    pub(crate) fn keep(&mut self, n: NodeNo, watch: Watch)
-        requires there { n.0 < node_count (layout_of self.old.line) }
-        requires watch { IsWatch self.old.line n.0 ((state_of self.old).minds n.0) watch }
-        ensures { self.new ≡ self.old }
-    {
-        self.watches[n.0 as usize] = watch;
     }
 
     /// What is so of the core's state, whatever run led to it.
@@ -179,14 +161,24 @@ impl<'a> Core<'a> {
         self.reached();
     }
 
-    /// The stamp of the node's next event on a word that was this.
-    fn next_stamp(&self, node: NodeNo, was: u64) -> u32
-        requires there { node.0 < length self.now.clocks }
-        requires clock { slice_index_or self.now.clocks node.0 0 < 4294967295 }
-        requires word { stamp_in was < 4294967295 }
-        ensures { result ≡ next_stamp (slice_index_or self.now.clocks node.0 0) was }
+    /// The mind of the node, which is well formed.
+    #[inline(always)]
+    pub(crate) fn mind(&self, n: NodeNo) -> &Mind
+        requires there { n.0 < node_count (layout_of self.now.line) }
+        requires few { self.now.events < 2 ^ 32 }
+        ensures mind { (state_of self.now).minds n.0 ≡ result.now }
+        ensures formed { HasMind self.now.line n.0 result.now }
     {
-        max(self.clocks[node.0 as usize], stamp_of(was)) + 1
+        self.sound();
+        self.mind_at(n)
+    }
+
+    /// The clock of the node.
+    fn clock_at(&self, n: NodeNo) -> u32
+        requires { n.0 < length self.now.clocks }
+        ensures { result ≡ slice_index_or self.now.clocks n.0 0 }
+    {
+        self.clocks[n.0 as usize]
     }
 
     /// Writes a word, and the mind and the clock of a node, of which nothing is known then.
@@ -214,7 +206,7 @@ impl<'a> Core<'a> {
         ensures { result ≡ event_in self.now node.0 w.0 was payload }
     {
         self.sound();
-        let stamp = self.next_stamp(node, was);
+        let stamp = next_stamp(self.clock_at(node), was);
         Event {
             node,
             stamp,
@@ -248,19 +240,14 @@ impl<'a> Core<'a> {
         event
     }
 
-    /// The place after the one at which the box of the node scans.
-    fn next_place(&self, node: NodeNo) -> u32
-        requires there { node.0 < length self.now.scans }
-        requires place { slice_index_or self.now.scans node.0 0 ≤ length self.now.line.trains }
-        requires few { length self.now.line.trains ≤ 32 }
-        ensures { result ≡ next_place self.now.line (slice_index_or self.now.scans node.0 0) }
+    /// The place at which the box of the node scans.
+    pub(crate) fn scan(&self, node: NodeNo) -> u32
+        requires { node.0 < node_count (layout_of self.now.line) }
+        ensures place { result ≡ slice_index_or self.now.scans node.0 0 }
+        ensures within { result ≤ length self.now.line.trains }
     {
-        let next = self.scans[node.0 as usize] + 1;
-        if next > self.line.layout().trains {
-            0
-        } else {
-            next
-        }
+        self.reached();
+        self.scan_at(node)
     }
 
     /// Writes a scan place.
@@ -278,7 +265,27 @@ impl<'a> Core<'a> {
         ensures { self.new ≡ advanced self.old node.0 }
     {
         self.reached();
-        let place = self.next_place(node);
+        let place = next_place(self.line(), self.scan(node));
         self.put_scan(node, place);
+    }
+
+    // For speed alone, as all that stands in `speed.rt`.
+
+    /// What is kept of the node while its mind stays.
+    #[inline(always)]
+    pub(crate) fn watch(&self, n: NodeNo) -> Watch
+        requires { n.0 < node_count (layout_of self.now.line) }
+        ensures { IsWatch self.now.line n.0 ((state_of self.now).minds n.0) result }
+    {
+        self.watches[n.0 as usize]
+    }
+
+    /// Keeps a watch of the node, which is right of its mind.
+    pub(crate) fn keep(&mut self, n: NodeNo, watch: Watch)
+        requires there { n.0 < node_count (layout_of self.old.line) }
+        requires watch { IsWatch self.old.line n.0 ((state_of self.old).minds n.0) watch }
+        ensures { self.new ≡ self.old }
+    {
+        self.watches[n.0 as usize] = watch;
     }
 }

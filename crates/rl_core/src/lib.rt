@@ -5,15 +5,14 @@
 #![tactic(auto)]
 
 pub mod cores;
-mod glances;
 mod look;
 pub mod moves;
 mod redoing;
 pub mod replays;
 pub mod reports;
+mod speed;
 mod starts;
 mod turns;
-mod watches;
 mod worlds;
 
 pub use cores::Core;

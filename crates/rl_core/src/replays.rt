@@ -1,4 +1,5 @@
 ghost use Rattle.std.specs.Prelude.{◌≡◌, ◌≢◌, ◌⊎◌, ℕ, ◌<◌, ◌≤◌, length, reverse, Ok, Err, IfOk};
+ghost use Rattle.rl_base.specs.Tries.{AreFewTries};
 ghost use Rattle.rl_steps.specs.Run.{IsRun};
 ghost use Rattle.rl_core.specs.Cores.{LeadsTo};
 ghost use Rattle.rl_core.specs.Replays.{replayed, IsFirstMisfit};
@@ -40,7 +41,7 @@ pub fn replay<'a>(
     events: &Events,
 ) -> Result<Core<'a>, ReplayFault>
     requires some_tries { 1 ≤ tries }
-    requires few_tries { tries ≤ 1000 }
+    requires few_tries { AreFewTries tries }
     requires few { length events.now < 4294967295 }
 
     // What each answer says.

@@ -4,7 +4,6 @@ ghost use Rattle.rl_tables.specs.Kept.{IsLine};
 ghost use Rattle.rl_tables.specs.Starts.{layout_of};
 ghost use Rattle.rl_core.specs.Starts.{AreStartMinds};
 
-use crate::watches::{Rare, Watch};
 use rl_base::{NoMemory, NodeNo};
 use rl_steps::{Mind, start_mind};
 use rl_tables::Line;
@@ -21,13 +20,6 @@ pub(crate) fn start_minds(alloc: Global, line: &Line, tries: u32) -> Result<Vec<
         minds.push(start_mind(line, tries, NodeNo(n)))?;
     }
     Ok(minds)
-}
-
-/// A watch for each node: at the start every node has to look closely.
-pub(crate) fn no_watches(alloc: Global, line: &Line) -> Result<Vec<Watch>, NoMemory>
-    ensures { IfOk result (λ xs. xs.items ≡ replicate (node_count (layout_of line.now)) (Watch.Rarely Rare.Closely)) }
-{
-    Ok(vec![in alloc; Watch::Rarely(Rare::Closely); line.layout().nodes() as usize]?)
 }
 
 /// A zero for each node, for clocks and scan places.

@@ -12,8 +12,8 @@ use Rattle.rl_record.proofs.Falling.{after_has}
 use Rattle.rl_tables.specs.declared.table.Tables.{Tables}
 use Rattle.rl_steps.specs.declared.mind.Mind.{Mind}
 use Rattle.rl_steps.specs.Step.{node_step}
-use Rattle.rl_steps.specs.State.{CoreState, start, next_stamp, mind_after, put}
-use Rattle.rl_steps.specs.Run.{Fits, IsRun, state}
+use Rattle.rl_steps.specs.State.{CoreState, start, next_stamp, mind_after, with_value}
+use Rattle.rl_steps.specs.Run.{EventFits, IsRun, state}
 use Rattle.rl_steps.proofs.Made.{IsMade, fits_made}
 use Rattle.rl_steps.proofs.Options.{get_set_same, get_set_other}
 use Rattle.rl_merge.specs.Chains.{mind_left, clock_left, IsNodeStep, IsNodeChain, IsOn, HeldBefore, AreChained, AreLeft}
@@ -102,7 +102,7 @@ word_other tables tries e log w other (inr bare) =
       holds = kept ∙ bare.holds;
     }
 
-word_own : (tables : Tables) (tries : ℕ) (e : Event) (log : List Event) (w : ℕ) → IsAfterAll e log → Fits tables (state tables tries log) e
+word_own : (tables : Tables) (tries : ℕ) (e : Event) (log : List Event) (w : ℕ) → IsAfterAll e log → EventFits tables (state tables tries log) e
     → w ≡ e.word.0 → Word tables tries (e ∷ log) w
 word_own tables tries e log w last fits same =
     let made = fits_made tables (state tables tries log) e fits in
@@ -218,9 +218,9 @@ led_minds tables tries e log led n =
     let c = state tables tries log in
     elim (cases_eq n e.node.0) [
       | inl same ↦ (
-          let MindAt : ℕ → Type 0 = λ m. put c.minds e.node.0 (mind_after tables c e) m ≡ mind_after tables c e in
+          let MindAt : ℕ → Type 0 = λ m. with_value c.minds e.node.0 (mind_after tables c e) m ≡ mind_after tables c e in
           let After : Mind → Mind = λ m. option_map_or (λ (r : ℕ × Mind). r.1) (node_step tables e.node.0 m e.word.0 (payload_in e.was)) m in
-          let now : put c.minds e.node.0 (mind_after tables c e) n ≡ mind_after tables c e =
+          let now : with_value c.minds e.node.0 (mind_after tables c e) n ≡ mind_after tables c e =
           subst MindAt (sym same) (put_same c.minds e.node.0 (mind_after tables c e)) in
           let before : c.minds e.node.0 ≡ mind_left tables tries e.node.0 (history e.node.0 log) = led.minds e.node.0 in
           let there : After (mind_left tables tries e.node.0 (history e.node.0 log)) ≡ mind_left tables tries n (e ∷ history n log) =
@@ -236,7 +236,7 @@ led_clocks tables tries e log led n =
     let c = state tables tries log in
     elim (cases_eq n e.node.0) [
       | inl same ↦ (
-          let Clock : ℕ → Type 0 = λ m. put c.clocks e.node.0 e.stamp m ≡ e.stamp in
+          let Clock : ℕ → Type 0 = λ m. with_value c.clocks e.node.0 e.stamp m ≡ e.stamp in
           subst Clock (sym same) (put_same c.clocks e.node.0 e.stamp) ∙ ap clock_left (sym (own_history e log n same)))
       | inr other ↦ put_other c.clocks e.node.0 e.stamp n other ∙ led.clocks n ∙ ap clock_left (sym (other_history e log n other))
     ]

@@ -9,8 +9,8 @@ use Rattle.rl_words.specs.Stamps.{payload_in, stamped}
 use Rattle.rl_tables.specs.declared.table.Tables.{Tables}
 use Rattle.rl_steps.specs.declared.mind.Mind.{Mind}
 use Rattle.rl_steps.specs.Step.{node_step}
-use Rattle.rl_steps.specs.State.{CoreState, event_at, next_stamp, mind_after, after, put}
-use Rattle.rl_steps.specs.Run.{Fits}
+use Rattle.rl_steps.specs.State.{CoreState, event_at, next_stamp, mind_after, after, with_value}
+use Rattle.rl_steps.specs.Run.{EventFits}
 use Rattle.rl_steps.proofs.Made.{IsMade}
 use Rattle.rl_steps.proofs.Options.{get_set_other}
 
@@ -21,19 +21,19 @@ pub record Apart (e f : Event) : Type 0 where
 pub apart_back : (e f : Event) → Apart e f → Apart f e
 apart_back e f apart = record { nodes = λ same. apart.nodes (sym same); words = λ same. apart.words (sym same) }
 
-pub put_other : {A : Type 0} (f : ℕ → A) (n : ℕ) (v : A) (m : ℕ) → m ≢ n → put f n v m ≡ f m
+pub put_other : {A : Type 0} (f : ℕ → A) (n : ℕ) (v : A) (m : ℕ) → m ≢ n → with_value f n v m ≡ f m
 put_other f n v m other = rw (ne_eqb m n other) refl
 
-pub put_same : {A : Type 0} (f : ℕ → A) (n : ℕ) (v : A) → put f n v n ≡ v
+pub put_same : {A : Type 0} (f : ℕ → A) (n : ℕ) (v : A) → with_value f n v n ≡ v
 put_same f n v = grind (arith, nat_tests)
 
-put_both : {A : Type 0} (f : ℕ → A) (m n : ℕ) (v w : A) → m ≢ n → put (put f m v) n w ≡ put (put f n w) m v
+put_both : {A : Type 0} (f : ℕ → A) (m n : ℕ) (v w : A) → m ≢ n → with_value (with_value f m v) n w ≡ with_value (with_value f n w) m v
 put_both f m n v w other =
     fun_ext (λ k. elim (cases_eq k n) [
-      | inl last ↦ rw last (put_same (put f m v) n w ∙ sym (put_other (put f n w) m v n (λ is. other (sym is)) ∙ put_same f n w))
-      | inr not_last ↦ put_other (put f m v) n w k not_last ∙ (elim (cases_eq k m) [
-        | inl first ↦ rw first (put_same f m v ∙ sym (put_same (put f n w) m v))
-        | inr not_first ↦ put_other f m v k not_first ∙ sym (put_other (put f n w) m v k not_first ∙ put_other f n w k not_last)
+      | inl last ↦ rw last (put_same (with_value f m v) n w ∙ sym (put_other (with_value f n w) m v n (λ is. other (sym is)) ∙ put_same f n w))
+      | inr not_last ↦ put_other (with_value f m v) n w k not_last ∙ (elim (cases_eq k m) [
+        | inl first ↦ rw first (put_same f m v ∙ sym (put_same (with_value f n w) m v))
+        | inr not_first ↦ put_other f m v k not_first ∙ sym (put_other (with_value f n w) m v k not_first ∙ put_other f n w k not_last)
       ])
     ])
 
@@ -74,7 +74,7 @@ made_after tables c f e apart made =
       mind = rw step refl;
     }
 
-pub made_fits : (tables : Tables) (c : CoreState) (e : Event) → IsMade tables c e → Fits tables c e
+pub made_fits : (tables : Tables) (c : CoreState) (e : Event) → IsMade tables c e → EventFits tables c e
 made_fits tables c e made =
     let now : stamped (next_stamp (c.clocks e.node.0) e.was) made.made.0 ≡ e.now = sym (made.now ∙ ap (λ (k : ℕ). stamped k made.made.0) made.stamp) in
     let event : ℕ → ℕ → Event = λ stamp now. record { node = e.node; stamp = stamp; word = e.word; was = e.was; now = now } in
@@ -85,7 +85,7 @@ made_fits tables c e made =
 -- the state with what the event writes, when its node's mind is this
 abbrev written : CoreState → Event → Mind → CoreState
 written c e mind =
-    record { words = slice_set c.words e.word.0 e.now; minds = put c.minds e.node.0 mind; clocks = put c.clocks e.node.0 e.stamp }
+    record { words = slice_set c.words e.word.0 e.now; minds = with_value c.minds e.node.0 mind; clocks = with_value c.clocks e.node.0 e.stamp }
 
 written_both : (c : CoreState) (e f : Event) (m n : Mind) → Apart e f → written (written c f n) e m ≡ written (written c e m) f n
 written_both c e f m n apart =

@@ -11,7 +11,7 @@ use Rattle.rl_record.proofs.Falling.{before_both}
 use Rattle.rl_tables.specs.declared.table.Tables.{Tables}
 use Rattle.rl_tables.specs.Kept.{IsLine}
 use Rattle.rl_steps.specs.State.{CoreState, after}
-use Rattle.rl_steps.specs.Run.{Fits, IsRun, state}
+use Rattle.rl_steps.specs.Run.{EventFits, IsRun, state}
 use Rattle.rl_steps.proofs.Made.{IsMade, fits_made}
 use Rattle.rl_merge.proofs.Exchange.{Apart, apart_back, made_before, made_after, made_fits, either_order}
 use Rattle.rl_merge.proofs.Later.{Laws, Follows, apart}
@@ -82,8 +82,8 @@ past : (tables : Tables) (tries : ℕ) (f : Event) (earlier : List Event) (e : E
 past tables tries f earlier e follows falls apart before (all, placed) =
     let c = state tables tries earlier in
     let first = fits_made tables c f follows.run.1 in
-    let fits : Fits tables (after tables c e) f = made_fits tables (after tables c e) f (made_after tables c e f (apart_back e f apart) first) in
-    let FitsAt : CoreState → Type 0 = λ s. Fits tables s f in
+    let fits : EventFits tables (after tables c e) f = made_fits tables (after tables c e) f (made_after tables c e f (apart_back e f apart) first) in
+    let FitsAt : CoreState → Type 0 = λ s. EventFits tables s f in
     let Then : CoreState → CoreState = λ s. after tables s f in (
       f ∷ all,
       record {

@@ -12,7 +12,7 @@ use Rattle.rl_tables.specs.Starts.{layout_of}
 use Rattle.rl_steps.specs.declared.mind.Mind.{Mind}
 use Rattle.rl_steps.specs.Numbers.{node_at}
 use Rattle.rl_steps.specs.Step.{node_step}
-use Rattle.rl_steps.specs.State.{CoreState, after, put}
+use Rattle.rl_steps.specs.State.{CoreState, after, with_value}
 use Rattle.rl_steps.specs.Run.{IsRun, state}
 use Rattle.rl_steps.specs.Sound.{IsMindOf, IsSound}
 use Rattle.rl_steps.proofs.Made.{IsMade, fits_made}
@@ -38,9 +38,9 @@ pub record Follows (tables : Tables) (tries : ℕ) (f : Event) (earlier : List E
 
 same_node : (tables : Tables) (c : CoreState) (f e : Event) → IsMade tables (after tables c f) e → e.node.0 ≡ f.node.0 → f.stamp < e.stamp
 same_node tables c f e made same =
-    let Clock : ℕ → Type 0 = λ n. put c.clocks f.node.0 f.stamp n ≡ f.stamp in
-    let clock : put c.clocks f.node.0 f.stamp e.node.0 ≡ f.stamp = subst Clock (sym same) (put_same c.clocks f.node.0 f.stamp) in
-    let stamp : e.stamp ≡ suc (max (put c.clocks f.node.0 f.stamp e.node.0) (stamp_in e.was)) = made.stamp in
+    let Clock : ℕ → Type 0 = λ n. with_value c.clocks f.node.0 f.stamp n ≡ f.stamp in
+    let clock : with_value c.clocks f.node.0 f.stamp e.node.0 ≡ f.stamp = subst Clock (sym same) (put_same c.clocks f.node.0 f.stamp) in
+    let stamp : e.stamp ≡ suc (max (with_value c.clocks f.node.0 f.stamp e.node.0) (stamp_in e.was)) = made.stamp in
     omega arith
 
 same_word : (tables : Tables) (c : CoreState) (f e : Event) → IsMade tables c f → stamp_in f.now ≡ f.stamp
@@ -62,8 +62,8 @@ own_stamp laws tables tries f earlier line few room run =
     let first = fits_made tables c f run.1 in
     let before = laws.sound tables tries earlier line few (omega arith) run.0 in
     let behind = laws.sound tables tries (f ∷ earlier) line few room run in
-    let clock : put c.clocks f.node.0 f.stamp f.node.0 ≤ length (f ∷ earlier) = behind.clocks f.node.0 in
-    let is : put c.clocks f.node.0 f.stamp f.node.0 ≡ f.stamp = put_same c.clocks f.node.0 f.stamp in
+    let clock : with_value c.clocks f.node.0 f.stamp f.node.0 ≤ length (f ∷ earlier) = behind.clocks f.node.0 in
+    let is : with_value c.clocks f.node.0 f.stamp f.node.0 ≡ f.stamp = put_same c.clocks f.node.0 f.stamp in
     let kept = laws.steps tables f.node.0 f.word.0 (payload_in f.was) first.made.0 (c.minds f.node.0) first.made.1
     line (before.minds f.node.0) first.step in
     ap stamp_in first.now ∙ laws.stamp f.stamp first.made.0 (omega arith) kept.1

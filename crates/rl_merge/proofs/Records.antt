@@ -15,7 +15,7 @@ use Rattle.rl_record.proofs.Rising.{Up}
 use Rattle.rl_record.proofs.Gathered.{in_some}
 use Rattle.rl_words.specs.Stamps.{stamp_in}
 use Rattle.rl_tables.specs.declared.table.Tables.{Tables}
-use Rattle.rl_steps.specs.State.{CoreState, put}
+use Rattle.rl_steps.specs.State.{CoreState, with_value}
 use Rattle.rl_steps.specs.Run.{IsRun, state}
 use Rattle.rl_steps.proofs.Made.{IsMade, fits_made}
 use Rattle.rl_merge.specs.Records.{AreRecordsOf}
@@ -30,10 +30,10 @@ among e xs f true h = h
 among e xs f false h = inr h
 
 below_own : (c : ℕ → ℕ) (e : Event) (xs : List Event) (n : ℕ) → c e.node.0 < e.stamp → IsBelow c n xs → n ≡ e.node.0
-    → (b : Bool) → IsBelow (put c e.node.0 e.stamp) n (cond b (e ∷ xs) xs)
+    → (b : Bool) → IsBelow (with_value c e.node.0 e.stamp) n (cond b (e ∷ xs) xs)
 below_own c e xs n later below same b f h =
-    let Clock : ℕ → Type 0 = λ m. put c e.node.0 e.stamp m ≡ e.stamp in
-    let clock : put c e.node.0 e.stamp n ≡ e.stamp = subst Clock (sym same) (put_same c e.node.0 e.stamp) in
+    let Clock : ℕ → Type 0 = λ m. with_value c e.node.0 e.stamp m ≡ e.stamp in
+    let clock : with_value c e.node.0 e.stamp n ≡ e.stamp = subst Clock (sym same) (put_same c e.node.0 e.stamp) in
     let old : c n ≡ c e.node.0 = ap c same in
     elim (among e xs f b h) [
       | inl is ↦ (let stamp : e.stamp ≡ f.stamp = ap (λ (x : Event). x.stamp) is in omega arith)
@@ -41,15 +41,15 @@ below_own c e xs n later below same b f h =
     ]
 
 below_other : (c : ℕ → ℕ) (e : Event) (xs : List Event) (n : ℕ) → IsBelow c n xs → n ≢ e.node.0
-    → (b : Bool) → (e.node.0 == n) ≡ b → IsBelow (put c e.node.0 e.stamp) n (cond b (e ∷ xs) xs)
+    → (b : Bool) → (e.node.0 == n) ≡ b → IsBelow (with_value c e.node.0 e.stamp) n (cond b (e ∷ xs) xs)
 below_other c e xs n below other true is f h = absurd (other (grind (arith, nat_tests)))
 below_other c e xs n below other false is f h =
-    let clock : put c e.node.0 e.stamp n ≡ c n = put_other c e.node.0 e.stamp n other in
+    let clock : with_value c e.node.0 e.stamp n ≡ c n = put_other c e.node.0 e.stamp n other in
     let low : f.stamp ≤ c n = below f h in
     omega arith
 
 below_after : (c : ℕ → ℕ) (e : Event) (log : List Event) (n : ℕ) → c e.node.0 < e.stamp → IsBelow c n (history n log)
-    → IsBelow (put c e.node.0 e.stamp) n (history n (e ∷ log))
+    → IsBelow (with_value c e.node.0 e.stamp) n (history n (e ∷ log))
 below_after c e log n later below =
     elim (cases_eq n e.node.0) [
       | inl same ↦ below_own c e (history n log) n later below same (e.node.0 == n)

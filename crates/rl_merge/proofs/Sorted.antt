@@ -7,7 +7,7 @@ use Rattle.rl_record.specs.Merge.{history, IsMerge}
 use Rattle.rl_tables.specs.declared.table.Tables.{Tables}
 use Rattle.rl_tables.specs.Kept.{IsLine}
 use Rattle.rl_steps.specs.State.{CoreState, after}
-use Rattle.rl_steps.specs.Run.{Fits, IsRun, state}
+use Rattle.rl_steps.specs.Run.{EventFits, IsRun, state}
 use Rattle.rl_steps.proofs.Made.{fits_made}
 use Rattle.rl_merge.proofs.Later.{Laws}
 use Rattle.rl_merge.proofs.Insertion.{IsPlaced, insert}
@@ -38,7 +38,7 @@ sort laws tables tries line few [] run room =
     ([], record { run = tt; state_is = refl; merge = record { falls = tt; parts = λ n. refl }; size = refl })
 sort laws tables tries line few (e ∷ log) run room =
     let (all, sorted) = sort laws tables tries line few log run.0 (omega arith) in
-    let FitsAt : CoreState → Type 0 = λ s. Fits tables s e in
+    let FitsAt : CoreState → Type 0 = λ s. EventFits tables s e in
     let made = fits_made tables (state tables tries all) e (subst FitsAt (sym sorted.state_is) run.1) in
     let (more, placed) = insert laws tables tries line few e all sorted.merge.falls sorted.run made (omega (arith, sorted.size)) in
     (more, one_more tables tries e log all more sorted placed)

@@ -8,13 +8,14 @@ use Rattle.rl_record.specs.Records.{Record, pushed}
 use Rattle.rl_tables.specs.declared.table.Tables.{Tables}
 use Rattle.rl_steps.specs.declared.mind.Mind.{Mind}
 use Rattle.rl_steps.specs.Step.{target_of}
+use Rattle.rl_steps.specs.Turn.{scan_after}
 use Rattle.rl_rule.specs.declared.views.Walk.{Walk}
 use Rattle.rl_rule.specs.declared.seats.NodeSeat.{NodeSeat}
 use Rattle.rl_rule.specs.declared.rails.Rails.{Rails}
 use Rattle.rl_rule.specs.Seats.{walk_of}
 use Rattle.rl_runner.specs.Turns.{raised}
 use Rattle.rl_nodes.specs.Nodes.{Node, number, turns_of, IsWhole, node_of, IsHome, IsReady, is_train_at_rest}
-use Rattle.rl_nodes.specs.Turns.{scan_after, Looks, Idles, Moves, IsTurn, LoadFinds}
+use Rattle.rl_nodes.specs.Turns.{Looks, Idles, Moves, IsTurn, LoadFinds}
 use Rattle.rl_nodes.specs.Looks.{LeavesWord, ChangesWord}
 use Rattle.rl_nodes.proofs.Resting.{no_target_rests, awake}
 

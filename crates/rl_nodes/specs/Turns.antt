@@ -1,5 +1,5 @@
 -- What a turn makes of a node, and what it answers: one line for each answer, and no two of them can hold at once.
-use Rattle.std.specs.Prelude.{◌≡◌, ℕ, ◌<◌, true, false, length, Option, Some, None, if◌then◌else◌}
+use Rattle.std.specs.Prelude.{◌≡◌, ℕ, ◌<◌, true, false, length, Option, Some, None}
 use Rattle.rl_words.specs.Stamps.{payload_in}
 use Rattle.rl_record.specs.declared.event.Event.{Event}
 use Rattle.rl_record.specs.declared.event.Turn.{Turn}
@@ -8,17 +8,13 @@ use Rattle.rl_record.specs.Records.{pushed}
 use Rattle.rl_tables.specs.declared.table.Tables.{Tables}
 use Rattle.rl_steps.specs.declared.mind.Mind.{Mind}
 use Rattle.rl_steps.specs.State.{next_stamp, event_at}
-use Rattle.rl_steps.specs.Step.{node_step, target_of, is_ready}
-use Rattle.rl_steps.specs.Turn.{next_place}
+use Rattle.rl_steps.specs.Step.{node_step, target_of}
+use Rattle.rl_steps.specs.Turn.{scan_after}
 use Rattle.rl_rule.specs.declared.views.Walk.{Walk}
 use Rattle.rl_rule.specs.Loads.{Tells, IsAlone, last_value}
 use Rattle.rl_rule.specs.Views.{loaded, stepped}
 use Rattle.rl_runner.specs.Turns.{raised}
 use Rattle.rl_nodes.specs.Nodes.{Node, number, is_train_at_rest}
-
--- a box that is ready goes on to its next scan place
-abbrev pub scan_after : Tables → Mind → ℕ → ℕ
-scan_after line mind scan = if is_ready mind then next_place line scan else scan
 
 -- one turn more
 abbrev pub counted : Node → Node

@@ -13,7 +13,6 @@ pub mod nodes;
 pub mod parting;
 pub mod parts;
 pub mod rooms;
-mod scan;
 pub mod seating;
 
 pub use finishing::{Finished, Minds, finish};

@@ -3,6 +3,7 @@ ghost use Rattle.rl_base.specs.declared.limits.TheConstants.{MAX_EVENTS};
 ghost use Rattle.rl_base.specs.Layout.{node_count, word_count};
 ghost use Rattle.rl_tables.specs.Starts.{layout_of};
 ghost use Rattle.rl_steps.specs.Held.{HasMind};
+ghost use Rattle.rl_steps.specs.Step.{LooksAt};
 ghost use Rattle.rl_rule.specs.Seats.{rails_id, rails_line, seat_id, seat_line, walk_of};
 ghost use Rattle.rl_nodes.specs.Looks.{IsLook};
 
@@ -20,7 +21,7 @@ pub(crate) enum Look {
     Made(Event, Mind),
 }
 
-/// One load of the word, and the step of the node there, if it has one.
+/// One load of the word, the node's target, and its step there, if it has one.
 pub(crate) fn look_at(
     rails: &Rails,
     line: &Line,
@@ -35,6 +36,7 @@ pub(crate) fn look_at(
     requires mind { (walk_of seat.old).mind ≡ mind.now }
     requires formed { HasMind line.now (walk_of seat.old).node.0 mind.now }
     requires word { w.0 < word_count (layout_of line.now) }
+    requires looks { LooksAt line.now (walk_of seat.old).node.0 mind.now w.0 }
     requires room { length (walk_of seat.old).history < MAX_EVENTS }
     ensures own { seat_id seat.new ≡ seat_id seat.old }
     ensures line { seat_line seat.new ≡ seat_line seat.old }

@@ -5,13 +5,12 @@ ghost use Rattle.rl_nodes.specs.Nodes.{IsReady, IsToppedUp};
 ghost use Rattle.rl_nodes.specs.Turns.{IsTurn};
 
 use crate::look::{Look, look_at};
-use crate::scan::scan_after;
 use rl_base::{NoMemory, NodeNo, Sequence};
 use rl_record::{Record, Turn};
 use rl_rule::{NodeSeat, Rails};
 use rl_runner::Turner;
 use rl_steps::who::{Who, identify};
-use rl_steps::{Mind, target};
+use rl_steps::{Mind, scan_after, target};
 use rl_tables::Line;
 use std::marker::Model;
 

@@ -11,7 +11,7 @@ use crate::networks::{STRAIGHT, TWO_LINES};
 use rl_base::{NoMemory, NodeNo, WordNo};
 use rl_record::{Event, Events, Record, Records, merge, records_by_node};
 use rl_rule::{NodeSeat, Rails};
-use rl_steps::{Mind, act, kept_minds, start_mind};
+use rl_steps::{Mind, act_anywhere, kept_minds, start_mind};
 use rl_tables::Line;
 use rl_words::payload_of;
 use std::alloc::Global;
@@ -44,7 +44,7 @@ fn turn_on(
     kept_minds();
     let _lay = line.layout();
     let value = rails.load(seat, w);
-    let (payload, after) = act(line, seat.node(), mind, w, payload_of(value))?;
+    let (payload, after) = act_anywhere(line, seat.node(), mind, w, payload_of(value))?;
     Some((rails.step(seat, payload, after), after))
 }
 

@@ -15,7 +15,7 @@ use Rattle.rl_record.specs.Merge.{history}
 use Rattle.rl_tables.specs.declared.table.Tables.{Tables}
 use Rattle.rl_tables.specs.Kept.{IsLine}
 use Rattle.rl_tables.specs.Starts.{layout_of}
-use Rattle.rl_steps.specs.State.{put, start_words}
+use Rattle.rl_steps.specs.State.{with_value, start_words}
 use Rattle.rl_rule.specs.declared.views.Load.{Load}
 use Rattle.rl_rule.specs.declared.views.Kept.{Kept}
 use Rattle.rl_rule.specs.declared.views.View.{View}
@@ -61,7 +61,7 @@ start_keeps tables tries line few =
 
 -- a seat is handed out
 abbrev more_places : Places → ℕ → Places
-more_places places seat = record { handed = places.handed + 1; place = put places.place places.handed seat }
+more_places places seat = record { handed = places.handed + 1; place = with_value places.place places.handed seat }
 
 times_more : (places : Places) (seat n : ℕ) → seat ≢ 0 → times_taken places n ≡ times_taken (more_places places seat) n
 times_more places seat n live =
@@ -79,8 +79,8 @@ times_more places seat n live =
 
     new_none : (m : ℕ) → m ≡ places.handed → times_taken (more_places places seat) m ≡ 0
     new_none m same =
-        let at : put places.place places.handed seat m ≡ seat = rw same (put_same places.place places.handed seat) in
-        not_zero (nat_lt m (places.handed + 1)) (put places.place places.handed seat m == 0) (rw at (ne_eqb seat 0 live))
+        let at : with_value places.place places.handed seat m ≡ seat = rw same (put_same places.place places.handed seat) in
+        not_zero (nat_lt m (places.handed + 1)) (with_value places.place places.handed seat m == 0) (rw at (ne_eqb seat 0 live))
 
     both : (m : ℕ) → (m ≡ places.handed → ⊥) → times_taken places m ≡ times_taken (more_places places seat) m
     both m other =
@@ -168,7 +168,7 @@ split_keeps tables tries id view role room s ruled there =
       nodes = λ n handed standing.
           elim (cases_eq n ruled.places.handed) [
             | inl same ↦
-                let at : put ruled.places.place ruled.places.handed (length s.views) n ≡ length s.views =
+                let at : with_value ruled.places.place ruled.places.handed (length s.views) n ≡ length s.views =
                 rw same (put_same ruled.places.place ruled.places.handed (length s.views)) in
                 record {
                   view = begun view;
@@ -178,7 +178,7 @@ split_keeps tables tries id view role room s ruled there =
                   node = knows.handed ∙ sym same;
                 }
             | inr other ↦
-                let at : put ruled.places.place ruled.places.handed (length s.views) n ≡ ruled.places.place n =
+                let at : with_value ruled.places.place ruled.places.handed (length s.views) n ≡ ruled.places.place n =
                 put_other ruled.places.place ruled.places.handed (length s.views) n other in
                 let was : IsNodeAt s.views (ruled.places.place n) n = ruled.nodes n (omega arith) (λ zero. standing (at ∙ zero)) in
                 record {
@@ -206,7 +206,7 @@ split_keeps tables tries id view role room s ruled there =
 
 -- a seat is taken in
 abbrev less_places : Places → ℕ → Places
-less_places places n = record { handed = places.handed; place = put places.place n 0 }
+less_places places n = record { handed = places.handed; place = with_value places.place n 0 }
 
 times_less : (places : Places) (n m count : ℕ) → n < places.handed → places.place n ≢ 0 → count ≡ times_taken places m →
     (if n == m then suc count else count) ≡ times_taken (less_places places n) m
@@ -221,7 +221,7 @@ times_less places n m count handed live is =
     once : n ≡ m → times_taken (less_places places n) m ≡ 1
     once same =
         let below : nat_lt m places.handed ≡ true = grind (arith, nat_tests) in
-        let at : put places.place n 0 m ≡ 0 = rw same (put_same places.place m 0) in
+        let at : with_value places.place n 0 m ≡ 0 = rw same (put_same places.place m 0) in
         rw (below, at) refl
 
     still : (n ≡ m → ⊥) → times_taken places m ≡ times_taken (less_places places n) m
@@ -296,7 +296,7 @@ join_keeps tables tries id view other node role plays s ruled there apart them =
       };
       nodes = λ m handed standing.
           let differs : (m ≡ node.walk.node.0 → ⊥) = λ same. standing (rw same (put_same ruled.places.place node.walk.node.0 0)) in
-          let at : put ruled.places.place node.walk.node.0 0 m ≡ ruled.places.place m = put_other ruled.places.place node.walk.node.0 0 m differs in
+          let at : with_value ruled.places.place node.walk.node.0 0 m ≡ ruled.places.place m = put_other ruled.places.place node.walk.node.0 0 m differs in
           let was : IsNodeAt s.views (ruled.places.place m) m = ruled.nodes m handed (λ zero. standing (at ∙ zero)) in
           let not_other : ruled.places.place m ≢ other = λ e.
           let is : was.view ≡ node = same_at s.views other was.view node (subst (λ (k : ℕ). get_elem? s.views k ≡ some was.view) e was.there) theirs in

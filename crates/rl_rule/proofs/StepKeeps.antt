@@ -14,7 +14,7 @@ use Rattle.rl_record.specs.Merge.{history}
 use Rattle.rl_tables.specs.declared.table.Tables.{Tables}
 use Rattle.rl_tables.specs.Starts.{layout_of}
 use Rattle.rl_steps.specs.declared.mind.Mind.{Mind}
-use Rattle.rl_steps.specs.Run.{Fits, state}
+use Rattle.rl_steps.specs.Run.{EventFits, state}
 use Rattle.rl_steps.specs.Step.{node_step}
 use Rattle.rl_steps.specs.State.{CoreState, next_stamp, event_at, mind_after}
 use Rattle.rl_steps.specs.Sound.{IsSound}
@@ -35,7 +35,7 @@ use Rattle.rl_rule.proofs.Others.{few_in_log, as_role, from_role, as_view, root_
 -- the step fits the state
 fits_state : (tables : Tables) (c : CoreState) (n w was payload clock : ℕ) (mind : Mind) → slice_get c.words w ≡ Some was →
     node_step tables n (c.minds n) w (payload_in was) ≡ Some (payload, mind) → clock ≡ c.clocks n →
-    Fits tables c (event_at n (next_stamp clock was) w was payload)
+    EventFits tables c (event_at n (next_stamp clock was) w was payload)
 fits_state tables c n w was payload clock mind word step same = rw (word, step, same) refl
 
 mind_made : (tables : Tables) (c : CoreState) (n w was payload clock : ℕ) (mind : Mind) →
@@ -44,7 +44,7 @@ mind_made tables c n w was payload clock mind step = rw step refl
 
 -- what is so of the step in the state that the log leaves
 record IsMove (tables : Tables) (tries : ℕ) (log : List Event) (walk : Walk) (load : Load) (payload : ℕ) (mind : Mind) : Type 0 where
-  fits : Fits tables (state tables tries log) (event_by walk load payload)
+  fits : EventFits tables (state tables tries log) (event_by walk load payload)
   word : slice_get (state tables tries log).words load.word.0 ≡ Some load.value
   owned : Owns (layout_of tables) load.word.0 (payload_in load.value) walk.node.0
   after : mind_after tables (state tables tries log) (event_by walk load payload) ≡ mind

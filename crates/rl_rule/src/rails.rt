@@ -7,13 +7,13 @@ ghost use Rattle.rl_rule.specs.declared.views.Role.TheVariants.{Root};
 
 use crate::plays::{Hands, Loads, Steps, Takes};
 use crate::rule::{Board, Key, Place};
-use crate::seats::{NodeSeat, next_stamp};
+use crate::seats::NodeSeat;
 use crate::views::Load;
 use atomic_table::{Closed, Table};
 use rl_base::{NoMemory, NodeNo, Sequence, WordNo};
 use rl_merge::merged_runs;
 use rl_record::Event;
-use rl_steps::{Mind, sound_runs, start_words, steps_of_owners};
+use rl_steps::{Mind, next_stamp, sound_runs, start_words, steps_of_owners};
 use rl_tables::Line;
 use rl_words::{one_owner, word_of};
 use std::alloc::Global;

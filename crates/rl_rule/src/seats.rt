@@ -1,6 +1,5 @@
 ghost use Rattle.std.specs.Prelude.{◌≡◌, ◌≤◌, ◌<◌, [], Some};
 ghost use Rattle.rl_words.specs.Stamps.{stamp_in};
-ghost use Rattle.rl_steps.specs.State.{next_stamp};
 ghost use Rattle.rl_rule.specs.declared.views.Load.{Load};
 ghost use Rattle.rl_rule.specs.declared.views.Role.TheVariants.{Node};
 ghost use Rattle.rl_rule.specs.Loads.{most_events};
@@ -8,8 +7,6 @@ ghost use Rattle.rl_rule.specs.Loads.{most_events};
 use crate::rule::Place;
 use crate::views::Load;
 use rl_base::NodeNo;
-use rl_words::stamp_of;
-use std::cmp::max;
 
 /// A node's seat at the table: its number, its clock and its last load, and in the proofs all that it knows, its
 /// `Walk`. It may go to any thread.
@@ -38,13 +35,4 @@ impl NodeSeat {
     {
         self.node
     }
-}
-
-/// The stamp of a node's next event on a word that was this.
-pub(crate) fn next_stamp(clock: u32, was: u64) -> u32
-    requires clock { clock ≤ most_events }
-    requires word { stamp_in was ≤ most_events }
-    ensures { result ≡ next_stamp clock was }
-{
-    max(clock, stamp_of(was)) + 1
 }

@@ -23,10 +23,10 @@ use Rattle.rl_steps.proofs.Numbering.{node_at-number, node_at-some}
 use Rattle.rl_protocol.specs.State.{put}
 use Rattle.rl_safety.specs.Reading.{train_of, track_of, box_of}
 
-put_same : {A : Type 0} (f : ℕ → A) (n : ℕ) (v : A) → states.put f n v n ≡ v
+put_same : {A : Type 0} (f : ℕ → A) (n : ℕ) (v : A) → states.with_value f n v n ≡ v
 put_same f n v = grind (arith, nat_tests)
 
-put_other : {A : Type 0} (f : ℕ → A) (n : ℕ) (v : A) (m : ℕ) → (m ≡ n → ⊥) → states.put f n v m ≡ f m
+put_other : {A : Type 0} (f : ℕ → A) (n : ℕ) (v : A) (m : ℕ) → (m ≡ n → ⊥) → states.with_value f n v m ≡ f m
 put_other f n v m other = rw (ne_eqb m n other) refl
 
 set_same : {A : Type 0} (f : ℕ → A) (n : ℕ) (v : A) → put f n v n ≡ v

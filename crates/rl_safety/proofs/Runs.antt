@@ -137,7 +137,7 @@ node_event laws tables tries c (nodes.Machine b) (Machine m) kind payload made l
     machine_event laws.steps laws.words tables tries c b m kind payload made there is step
 
 pub event_step : Laws → (tables : Tables) (tries : ℕ) (c : CoreState) (e : Event) → IsLine tables → AreMinded tables c
-    → Agrees (line_of tables) tries (read tables tries c) → runs.Fits tables c e → IsEventStep tables tries c e
+    → Agrees (line_of tables) tries (read tables tries c) → runs.EventFits tables c e → IsEventStep tables tries c e
 event_step laws tables tries c e line minded agrees fits =
     let made : IsMade tables c e = fits_made tables c e fits in
     let node =

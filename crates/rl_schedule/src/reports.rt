@@ -1,4 +1,5 @@
 ghost use Rattle.std.specs.Prelude.{◌≡◌, ◌≤◌, length, IfOk};
+ghost use Rattle.rl_base.specs.Tries.{AreFewTries};
 ghost use Rattle.rl_base.specs.Layout.{node_count};
 ghost use Rattle.rl_base.specs.declared.limits.TheConstants.{MAX_MOVES};
 ghost use Rattle.rl_model.specs.declared.network.NetworkPlan.{NetworkPlan};
@@ -26,7 +27,7 @@ pub fn report(
     schedule: &Schedule,
 ) -> Result<Report, NoMemory>
     requires some_tries { 1 ≤ tries }
-    requires few_tries { tries ≤ 1000 }
+    requires few_tries { AreFewTries tries }
     requires fits { IsScheduleFor (node_count (layout_of line.now)) schedule.now }
     // It is the report of the turns.
     ensures report { IfOk result (λ r.

@@ -1,8 +1,7 @@
 -- The step of a node on any word: none but at the words at which it looks, and there what its mind's own call answers.
-use Rattle.std.proofs.Common.{◌≡◌, ℕ, ◌<◌, Option, Some, None, option_map, option_and_then, slice_get, refl, sym, ap, ◌∙◌, arith}
+use Rattle.std.proofs.Common.{◌≡◌, ℕ, ◌<◌, Option, Some, None, option_and_then, slice_get, refl, sym, ap, ◌∙◌, arith}
 use Rattle.std.proofs.lemmas.Bool.Decides.{nat_tests}
 use Rattle.rl_base.specs.declared.ids.BoxId.{BoxId}
-use Rattle.rl_base.specs.declared.ids.TrainId.{TrainId}
 use Rattle.rl_base.specs.declared.layout.Layout.{Layout}
 use Rattle.rl_base.specs.declared.layout.NodeKind.{NodeKind}
 use Rattle.rl_base.specs.declared.layout.NodeKind.TheVariants as nodes
@@ -10,25 +9,16 @@ use Rattle.rl_base.specs.declared.layout.WordKind.{WordKind}
 use Rattle.rl_base.specs.Layout.{word_count, word_number, HasWord}
 use Rattle.rl_tables.specs.declared.table.Tables.{Tables}
 use Rattle.rl_tables.specs.declared.table.BoxTable.{BoxTable}
-use Rattle.rl_tables.specs.declared.table.TrainTable.{TrainTable}
 use Rattle.rl_tables.specs.Starts.{layout_of}
-use Rattle.rl_train.specs.declared.mind.TrainMind.{TrainMind}
-use Rattle.rl_train.specs.Kept.{KeepsTrain}
-use Rattle.rl_train.specs.Steps.{train_step, train_target}
 use Rattle.rl_box.specs.declared.mind.BoxMind.{BoxMind}
 use Rattle.rl_box.specs.Steps.{box_step}
-use Rattle.rl_track.specs.declared.track.TrackMind.{TrackMind}
-use Rattle.rl_track.specs.declared.machine.MachineMind.{MachineMind}
-use Rattle.rl_track.specs.Kept.{KeepsTrack, KeepsMachine}
-use Rattle.rl_track.specs.Track.{track_step, track_target}
-use Rattle.rl_track.specs.Machine.{machine_step, machine_target}
 use Rattle.rl_steps.specs.declared.mind.Mind.{Mind}
-use Rattle.rl_steps.specs.declared.mind.Mind.TheVariants.{Train, Track, Box, Machine}
+use Rattle.rl_steps.specs.declared.mind.Mind.TheVariants.{Box}
 use Rattle.rl_steps.specs.Numbers.{node_at, word_at}
 use Rattle.rl_steps.specs.Step.{node_step, step_of, as_mind}
 use Rattle.rl_steps.proofs.Numbering.{word_at-some}
-use Rattle.rl_steps.proofs.Options.{from_map, from_then}
-use Rattle.rl_steps.proofs.ByKind.{train_step_at, track_step_at, box_step_at, machine_step_at}
+use Rattle.rl_steps.proofs.Options.{from_then}
+use Rattle.rl_steps.proofs.ByKind.{box_step_at}
 
 none_unless : {A : Type 0} (o : Option A) → ((a : A) → o ≡ Some a → ⊥) → o ≡ None
 none_unless None h = refl
@@ -51,46 +41,6 @@ step_node tables n w payload mind r is =
     let node = from_then (λ (node : NodeKind). option_and_then (λ (word : WordKind). step_of tables node mind word payload) (word_at (layout_of tables) w))
     (node_at (layout_of tables) n) r is in
     (node.0, node.1)
-
--- a train, a track and a point machine have no step at a word at which they don't look
-pub train_elsewhere : (tables : Tables) (n w payload : ℕ) (t : TrainId) (x : TrainTable) (m : TrainMind)
-    → ((kind : WordKind) (payload new : ℕ) (after : TrainMind) → train_step x m kind payload ≡ Some (new, after)
-    → KeepsTrain (layout_of tables) x m kind payload new after) → node_at (layout_of tables) n ≡ Some (nodes.Train t) → slice_get tables.trains t.0 ≡ Some x
-    → (option_map (word_number (layout_of tables)) (train_target x m) ≡ Some w → ⊥) → node_step tables n (Train m) w payload ≡ None
-train_elsewhere tables n w payload t x m law at there other =
-    none_unless (node_step tables n (Train m) w payload)
-    (λ (r : ℕ × Mind) (is : node_step tables n (Train m) w payload ≡ Some r).
-    let word = step_word tables n w payload (Train m) r is in
-    let made = from_map (λ (s : ℕ × TrainMind). (s.0, Train s.1)) (train_step x m word.0 payload) r
-    (sym (train_step_at tables n w payload t x m word.0 at there word.1) ∙ is) in
-    let kept = law word.0 payload made.0.0 made.0.1 made.1 in
-    other (ap (option_map (word_number (layout_of tables))) kept.target ∙ ap Some (word_at-some (layout_of tables) w word.0 word.1).1))
-
-pub track_elsewhere : (tables : Tables) (n w payload : ℕ) (t : TrainId) (m : TrackMind)
-    → ((kind : WordKind) (payload new : ℕ) (after : TrackMind) → track_step t m kind payload ≡ Some (new, after)
-    → KeepsTrack (layout_of tables) t m kind payload new after) → node_at (layout_of tables) n ≡ Some (nodes.Track t)
-    → (word_number (layout_of tables) (track_target t m) ≡ w → ⊥) → node_step tables n (Track m) w payload ≡ None
-track_elsewhere tables n w payload t m law at other =
-    none_unless (node_step tables n (Track m) w payload)
-    (λ (r : ℕ × Mind) (is : node_step tables n (Track m) w payload ≡ Some r).
-    let word = step_word tables n w payload (Track m) r is in
-    let made = from_map (λ (s : ℕ × TrackMind). (s.0, Track s.1)) (track_step t m word.0 payload) r
-    (sym (track_step_at tables n w payload t m word.0 at word.1) ∙ is) in
-    let kept = law word.0 payload made.0.0 made.0.1 made.1 in
-    other (ap (word_number (layout_of tables)) (sym kept.target) ∙ (word_at-some (layout_of tables) w word.0 word.1).1))
-
-pub machine_elsewhere : (tables : Tables) (n w payload : ℕ) (b : BoxId) (m : MachineMind)
-    → ((kind : WordKind) (payload new : ℕ) (after : MachineMind) → machine_step b m kind payload ≡ Some (new, after)
-    → KeepsMachine (layout_of tables) b m kind payload new after) → node_at (layout_of tables) n ≡ Some (nodes.Machine b)
-    → (word_number (layout_of tables) (machine_target b) ≡ w → ⊥) → node_step tables n (Machine m) w payload ≡ None
-machine_elsewhere tables n w payload b m law at other =
-    none_unless (node_step tables n (Machine m) w payload)
-    (λ (r : ℕ × Mind) (is : node_step tables n (Machine m) w payload ≡ Some r).
-    let word = step_word tables n w payload (Machine m) r is in
-    let made = from_map (λ (s : ℕ × MachineMind). (s.0, Machine s.1)) (machine_step b m word.0 payload) r
-    (sym (machine_step_at tables n w payload b m word.0 at word.1) ∙ is) in
-    let kept = law word.0 payload made.0.0 made.0.1 made.1 in
-    other (ap (word_number (layout_of tables)) (sym kept.target) ∙ (word_at-some (layout_of tables) w word.0 word.1).1))
 
 -- a box steps on any word of the line as its mind's own call says
 word_there : (lay : Layout) (w : ℕ) → w < word_count lay → (kind : WordKind) × (word_at lay w ≡ Some kind)

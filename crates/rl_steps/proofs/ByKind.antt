@@ -1,5 +1,5 @@
 -- The step and the target of a node by its kind.
-use Rattle.std.proofs.Common.{◌≡◌, ℕ, Option, Some, None, option_map, option_and_then, slice_get, refl}
+use Rattle.std.proofs.Common.{◌≡◌, ℕ, Some, option_map, slice_get, refl}
 use Rattle.rl_base.specs.declared.ids.BoxId.{BoxId}
 use Rattle.rl_base.specs.declared.ids.TrainId.{TrainId}
 use Rattle.rl_base.specs.declared.layout.NodeKind.{NodeKind}

@@ -1,5 +1,5 @@
 -- From what a mind's own calls answer to the step and the target of its node.
-use Rattle.std.proofs.Common.{◌≡◌, ℕ, ◌+◌, ◌<◌, ◌≤◌, ◌==◌, nat_lt, Bool, true, false, not, ◌&&◌, ◌||◌, Option, Some, None, option_map, option_and_then, slice_get, length, refl, sym, ap, ◌∙◌, subst, inl, inr, if◌then◌else◌, arith}
+use Rattle.std.proofs.Common.{◌≡◌, ℕ, ◌<◌, nat_lt, Bool, true, false, Option, Some, None, option_map, option_and_then, slice_get, length, refl, sym, ap, ◌∙◌, subst, if◌then◌else◌, arith}
 use Rattle.std.proofs.lemmas.Bool.Decides.{nat_tests}
 use Rattle.std.proofs.lemmas.Option.{slice_get_within}
 use Rattle.rl_base.specs.declared.ids.BoxId.{BoxId}
@@ -31,7 +31,6 @@ use Rattle.rl_track.specs.declared.track.TrackPhase.TheVariants.{Watch, HeadDue,
 use Rattle.rl_track.specs.declared.machine.MachineMind.{MachineMind}
 use Rattle.rl_track.specs.Track.{track_step, track_target, phase_target}
 use Rattle.rl_track.specs.Machine.{machine_step, machine_target}
-use Rattle.rl_steps.specs.declared.mind.Mind.{Mind}
 use Rattle.rl_steps.specs.declared.mind.Mind.TheVariants.{Train, Track, Box, Machine}
 use Rattle.rl_steps.specs.Numbers.{node_at, word_at}
 use Rattle.rl_steps.specs.Step.{node_step, as_mind, target_of}

@@ -9,3 +9,4 @@ pub mod Beginning
 pub mod Keeping
 pub mod Sounding
 mod Finding
+pub mod Steady

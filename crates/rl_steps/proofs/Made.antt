@@ -1,12 +1,12 @@
 -- An event that fits, taken apart: the word before it, its node's step, its stamp and the word after it.
-use Rattle.std.proofs.Common.{◌≡◌, ℕ, Option, Some, None, option_map, option_and_then, slice_get, refl, sym, ap, ◌∙◌, arith}
+use Rattle.std.proofs.Common.{◌≡◌, ℕ, Some, option_map, slice_get, refl, sym, ap}
 use Rattle.rl_record.specs.declared.event.Event.{Event}
 use Rattle.rl_words.specs.Stamps.{payload_in, stamped}
 use Rattle.rl_tables.specs.declared.table.Tables.{Tables}
 use Rattle.rl_steps.specs.declared.mind.Mind.{Mind}
 use Rattle.rl_steps.specs.Step.{node_step}
-use Rattle.rl_steps.specs.State.{CoreState, event_of, event_at, next_stamp, mind_after}
-use Rattle.rl_steps.specs.Run.{Fits}
+use Rattle.rl_steps.specs.State.{CoreState, event_at, next_stamp, mind_after}
+use Rattle.rl_steps.specs.Run.{EventFits}
 use Rattle.rl_steps.proofs.Options.{from_map, from_then}
 
 pub record IsMade (tables : Tables) (c : CoreState) (e : Event) : Type 0 where
@@ -34,7 +34,7 @@ made_at tables c e was made read step is =
       mind = rw step_there refl;
     }
 
-pub fits_made : (tables : Tables) (c : CoreState) (e : Event) → Fits tables c e → IsMade tables c e
+pub fits_made : (tables : Tables) (c : CoreState) (e : Event) → EventFits tables c e → IsMade tables c e
 fits_made tables c e fits =
     let read = from_then
     (λ was. option_map (λ (r : ℕ × Mind). event_at e.node.0 (next_stamp (c.clocks e.node.0) was) e.word.0 was r.0)

@@ -1,12 +1,12 @@
 -- The node and the word of a number, there and back.
-use Rattle.std.proofs.Common.{◌≡◌, ℕ, ◌+◌, ◌-◌, ◌*◌, ◌<◌, nat_lt, Bool, true, false, if◌then◌else◌, Option, Some, None, refl, arith}
+use Rattle.std.proofs.Common.{◌≡◌, ℕ, Some, refl, arith}
 use Rattle.std.proofs.lemmas.Bool.Decides.{nat_tests}
 use Rattle.rl_base.specs.declared.layout.Layout.{Layout}
 use Rattle.rl_base.specs.declared.layout.NodeKind.{NodeKind}
 use Rattle.rl_base.specs.declared.layout.NodeKind.TheVariants as nodes
 use Rattle.rl_base.specs.declared.layout.WordKind.{WordKind}
 use Rattle.rl_base.specs.declared.layout.WordKind.TheVariants as words
-use Rattle.rl_base.specs.Layout.{word_count, word_number, HasWord, node_count, node_number, HasNode}
+use Rattle.rl_base.specs.Layout.{word_number, HasWord, node_number, HasNode}
 use Rattle.rl_steps.specs.Numbers.{node_at, word_at}
 
 pub word_at-number : (lay : Layout) (kind : WordKind) → HasWord lay kind → word_at lay (word_number lay kind) ≡ Some kind

@@ -1,5 +1,5 @@
 -- Options that are something.
-use Rattle.std.proofs.Common.{◌≡◌, ℕ, zero, suc, ◌<◌, ◌≡◌, List, [], ◌∷◌, length, slice_get, slice_set, Option, Some, None, option_map, option_and_then, refl, ap, arith}
+use Rattle.std.proofs.Common.{◌≡◌, ℕ, zero, suc, ◌≡◌, List, [], ◌∷◌, slice_get, slice_set, Option, Some, None, option_map, option_and_then, refl, ap}
 
 pub from_map : {A B : Type 0} (f : A → B) (o : Option A) (b : B) → option_map f o ≡ Some b → (a : A) × (o ≡ Some a) × (f a ≡ b)
 from_map f None b e = absurd (cc)

@@ -1,5 +1,5 @@
 -- The state after every run is sound.
-use Rattle.std.proofs.Common.{◌≡◌, ℕ, zero, suc, ◌+◌, ◌*◌, ◌^◌, ◌/◌, ◌%◌, ◌<◌, ◌≤◌, ◌==◌, max, List, [], ◌∷◌, length, slice_get, slice_set, Option, Some, None, option_and_then, refl, sym, ap, ◌∙◌, subst, inl, inr, true, false, arith}
+use Rattle.std.proofs.Common.{◌≡◌, ℕ, suc, ◌+◌, ◌*◌, ◌^◌, ◌/◌, ◌%◌, ◌<◌, ◌≤◌, max, List, [], ◌∷◌, length, slice_get, slice_set, Some, refl, sym, ◌∙◌, inl, inr, arith}
 use Rattle.std.proofs.lemmas.Bool.{cases_eq, ne_eqb}
 use Rattle.std.proofs.lemmas.Bool.Decides.{nat_tests}
 use Rattle.std.proofs.lemmas.List.{length-set}
@@ -11,22 +11,20 @@ use Rattle.rl_words.specs.Stamps.{stamp_in, payload_in, stamped}
 use Rattle.rl_tables.specs.declared.table.Tables.{Tables}
 use Rattle.rl_tables.specs.Kept.{IsLine}
 use Rattle.rl_tables.specs.Starts.{layout_of}
-use Rattle.rl_steps.specs.declared.mind.Mind.{Mind}
-use Rattle.rl_steps.specs.Numbers.{node_at, word_at}
-use Rattle.rl_steps.specs.Step.{node_step, step_of}
-use Rattle.rl_steps.specs.State.{CoreState, start, start_word, start_mind, start_words, next_stamp, after, mind_after, put}
-use Rattle.rl_steps.specs.Run.{Fits, IsRun, state}
+use Rattle.rl_steps.specs.Numbers.{node_at}
+use Rattle.rl_steps.specs.State.{CoreState, start, start_word, start_words, after, mind_after, with_value}
+use Rattle.rl_steps.specs.Run.{EventFits, IsRun, state}
 use Rattle.rl_steps.specs.Sound.{IsMindOf, IsSound}
 use Rattle.rl_steps.proofs.Beginning.{start_fits, start_minds}
 use Rattle.rl_steps.proofs.Made.{IsMade, fits_made}
-use Rattle.rl_steps.proofs.Keeping.{StepsKeep, KeepsTo, step_keeps}
+use Rattle.rl_steps.proofs.Keeping.{StepsKeep, step_keeps}
 use Rattle.rl_steps.proofs.Options.{same_some, get_set_same, get_set_other}
 use Rattle.rl_steps.proofs.Starts.{start_words-length, start_words-get}
 
-put_same : {A : Type 0} (f : ℕ → A) (n : ℕ) (v : A) → put f n v n ≡ v
+put_same : {A : Type 0} (f : ℕ → A) (n : ℕ) (v : A) → with_value f n v n ≡ v
 put_same f n v = grind (arith, nat_tests)
 
-put_other : {A : Type 0} (f : ℕ → A) (n : ℕ) (v : A) (m : ℕ) → (m ≡ n → ⊥) → put f n v m ≡ f m
+put_other : {A : Type 0} (f : ℕ → A) (n : ℕ) (v : A) (m : ℕ) → (m ≡ n → ⊥) → with_value f n v m ≡ f m
 put_other f n v m other = rw (ne_eqb m n other) refl
 
 small_stamp : (v : ℕ) → v < 2 ^ 32 → stamp_in v ≡ 0
@@ -66,7 +64,7 @@ word_after tables k c e v room sound made small le is =
     let stamp_v : stamp_in v ≡ e.stamp = rw now stamp in
     (omega arith, omega arith)
 
-event_sound : StepsKeep → (tables : Tables) (k : ℕ) (c : CoreState) (e : Event) → IsLine tables → suc k < 2 ^ 32 → IsSound tables k c → Fits tables c e
+event_sound : StepsKeep → (tables : Tables) (k : ℕ) (c : CoreState) (e : Event) → IsLine tables → suc k < 2 ^ 32 → IsSound tables k c → EventFits tables c e
     → IsSound tables (suc k) (after tables c e)
 event_sound laws tables k c e line room sound fits =
     let made : IsMade tables c e = fits_made tables c e fits in
@@ -108,7 +106,7 @@ event_sound laws tables k c e line room sound fits =
 abbrev pub AreMinded : Tables → CoreState → Type 0
 AreMinded tables c = (n : ℕ) (node : NodeKind) → node_at (layout_of tables) n ≡ Some node → IsMindOf tables node (c.minds n)
 
-event_minded : StepsKeep → (tables : Tables) (c : CoreState) (e : Event) → IsLine tables → AreMinded tables c → Fits tables c e
+event_minded : StepsKeep → (tables : Tables) (c : CoreState) (e : Event) → IsLine tables → AreMinded tables c → EventFits tables c e
     → AreMinded tables (after tables c e)
 event_minded laws tables c e line minded fits =
     let made : IsMade tables c e = fits_made tables c e fits in

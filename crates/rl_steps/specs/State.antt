@@ -1,5 +1,5 @@
 -- The state of a core: every word, and the mind and the clock of every node; the event that a node makes of it.
-use Rattle.std.specs.Prelude.{ℕ, zero, suc, ◌==◌, max, List, [], ◌∷◌, ◌++◌, slice_get, slice_set, Option, Some, None, option_map, option_and_then, if◌then◌else◌}
+use Rattle.std.specs.Prelude.{ℕ, zero, suc, ◌==◌, max, List, [], ◌∷◌, ◌++◌, slice_get, slice_set, Option, Some, option_map, option_and_then, if◌then◌else◌}
 use Rattle.std.specs.Option.{option_map_or}
 use Rattle.rl_base.specs.declared.layout.NodeKind.{NodeKind}
 use Rattle.rl_base.specs.declared.layout.NodeKind.TheVariants as nodes
@@ -11,7 +11,6 @@ use Rattle.rl_tables.specs.Starts.{layout_of, start_payload}
 use Rattle.rl_train.specs.Mind.{start_train}
 use Rattle.rl_box.specs.Mind.{start_box}
 use Rattle.rl_track.specs.Track.{start_track}
-use Rattle.rl_track.specs.declared.machine.MachineMind.{MachineMind}
 use Rattle.rl_steps.specs.declared.mind.Mind.{Mind}
 use Rattle.rl_steps.specs.declared.mind.Mind.TheVariants.{Train, Track, Box, Machine}
 use Rattle.rl_steps.specs.Numbers.{node_at, word_at}
@@ -24,8 +23,8 @@ pub record CoreState : Type 0 where
   pub clocks : ℕ → ℕ
 
 -- the function with the value v at n
-abbrev pub put : {A : Type 0} → (ℕ → A) → ℕ → A → ℕ → A
-put f n v m = if m == n then v else f m
+abbrev pub with_value : {A : Type 0} → (ℕ → A) → ℕ → A → ℕ → A
+with_value f n v m = if m == n then v else f m
 
 -- the mind of each node at the start
 abbrev pub start_mind_of : ℕ → Option NodeKind → Mind
@@ -90,6 +89,6 @@ abbrev pub after : Tables → CoreState → Event → CoreState
 after tables c e =
     record {
       words = slice_set c.words e.word.0 e.now;
-      minds = put c.minds e.node.0 (mind_after tables c e);
-      clocks = put c.clocks e.node.0 e.stamp;
+      minds = with_value c.minds e.node.0 (mind_after tables c e);
+      clocks = with_value c.clocks e.node.0 e.stamp;
     }

@@ -1,6 +1,6 @@
 -- The step of a node on a word, and the word at which a node looks: the one definition that turns, replays and threads
 -- cite. A node sees its own table, its own mind and one word.
-use Rattle.std.specs.Prelude.{ℕ, ◌<◌, ◌==◌, Bool, true, false, Option, Some, None, option_map, option_and_then, slice_get, if◌then◌else◌}
+use Rattle.std.specs.Prelude.{◌≡◌, ℕ, ◌≤◌, length, Bool, true, false, Option, Some, None, option_map, option_and_then, slice_get}
 use Rattle.rl_base.specs.declared.layout.NodeKind.{NodeKind}
 use Rattle.rl_base.specs.declared.layout.NodeKind.TheVariants as nodes
 use Rattle.rl_base.specs.declared.layout.WordKind.{WordKind}
@@ -13,7 +13,6 @@ use Rattle.rl_train.specs.Steps.{train_step, train_target}
 use Rattle.rl_box.specs.Steps.{box_step, box_target}
 use Rattle.rl_track.specs.Track.{track_step, track_target}
 use Rattle.rl_track.specs.Machine.{machine_step, machine_target}
-use Rattle.rl_box.specs.declared.mind.BoxMind.{BoxMind}
 use Rattle.rl_box.specs.declared.mind.Work.{Work}
 use Rattle.rl_box.specs.declared.mind.Work.TheVariants.{Ready, Serve, Say}
 use Rattle.rl_steps.specs.declared.mind.Mind.{Mind}
@@ -65,3 +64,9 @@ abbrev pub target_of : Tables → ℕ → Mind → ℕ → Option ℕ
 target_of tables n mind scan =
     option_and_then (λ node. option_map (word_number (layout_of tables)) (target_kind tables node mind scan))
     (node_at (layout_of tables) n)
+
+-- it looks at word w, at some place that it may scan
+pub record LooksAt (tables : Tables) (n : ℕ) (mind : Mind) (w : ℕ) : Type 0 where
+  pub scan : ℕ
+  pub within : scan ≤ length tables.trains
+  pub target : target_of tables n mind scan ≡ Some w

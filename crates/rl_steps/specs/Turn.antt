@@ -1,15 +1,11 @@
 -- Turns: a node looks at its target and makes the event there, if it has one. A ready box goes round its scan places.
-use Rattle.std.specs.Prelude.{ℕ, ◌+◌, ◌%◌, Bool, false, List, [], ◌∷◌, fold, length, slice_index_or, Option, Some, None, if◌then◌else◌}
-use Rattle.rl_base.specs.declared.layout.NodeKind.{NodeKind}
-use Rattle.rl_base.specs.declared.layout.NodeKind.TheVariants as nodes
+use Rattle.std.specs.Prelude.{ℕ, ◌+◌, ◌%◌, List, [], ◌∷◌, fold, length, slice_index_or, Option, Some, None, if◌then◌else◌}
 use Rattle.rl_record.specs.declared.event.Event.{Event}
 use Rattle.rl_record.specs.declared.event.Turn.{Turn}
 use Rattle.rl_record.specs.declared.event.Turn.TheVariants.{Moved, Idle, Rest}
 use Rattle.rl_tables.specs.declared.table.Tables.{Tables}
-use Rattle.rl_tables.specs.Starts.{layout_of}
 use Rattle.rl_steps.specs.declared.mind.Mind.{Mind}
-use Rattle.rl_steps.specs.Numbers.{node_at}
-use Rattle.rl_steps.specs.State.{CoreState, event_of, put}
+use Rattle.rl_steps.specs.State.{CoreState, event_of, with_value}
 use Rattle.rl_steps.specs.Run.{state}
 use Rattle.rl_steps.specs.Step.{target_of, is_ready}
 
@@ -25,9 +21,12 @@ start_drive = record { events = []; scans = λ n. 0 }
 abbrev pub next_place : Tables → ℕ → ℕ
 next_place tables place = (place + 1) % (length tables.trains + 1)
 
--- a box that is ready goes on to its next place
+-- the place after a turn of a node with this mind: a box that is ready goes on to its next one
+abbrev pub scan_after : Tables → Mind → ℕ → ℕ
+scan_after tables mind scan = if is_ready mind then next_place tables scan else scan
+
 abbrev pub scanned : Tables → Drive → ℕ → Mind → ℕ → ℕ
-scanned tables d n mind = if is_ready mind then put d.scans n (next_place tables (d.scans n)) else d.scans
+scanned tables d n mind = if is_ready mind then with_value d.scans n (next_place tables (d.scans n)) else d.scans
 
 -- what a node that looks at word w comes to
 abbrev pub answer_at : CoreState → ℕ → Option Event → Turn

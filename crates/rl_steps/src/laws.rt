@@ -1,4 +1,5 @@
 ghost use Rattle.std.specs.Prelude.{◌≡◌, ℕ, ◌^◌, ◌<◌, ◌≤◌, List, length, Some};
+ghost use Rattle.rl_base.specs.Tries.{AreFewTries};
 ghost use Rattle.rl_base.specs.declared.layout.Layout.{Layout};
 ghost use Rattle.rl_base.specs.declared.layout.NodeKind.{NodeKind};
 ghost use Rattle.rl_base.specs.declared.layout.WordKind.{WordKind};
@@ -14,7 +15,7 @@ ghost use Rattle.rl_steps.specs.Numbers.{node_at, word_at};
 ghost use Rattle.rl_steps.specs.Run.{IsRun, state};
 ghost use Rattle.rl_steps.specs.Sound.{IsMindOf, IsSound};
 ghost use Rattle.rl_steps.specs.State.{start_mind};
-ghost use Rattle.rl_steps.specs.Step.{node_step};
+ghost use Rattle.rl_steps.specs.Step.{node_step, LooksAt};
 
 use rl_box::box_steps;
 use rl_track::{machine_steps, track_steps};
@@ -32,6 +33,19 @@ pub fn numbered()
         → HasWord lay kind × (word_number lay kind ≡ w) }
 {}
 
+/// A step changes a word at which its node looks.
+pub fn steps_at_targets()
+    ensures { (tables : Tables) (n w payload new : ℕ) (mind after : Mind) → IsLine tables → HasMind tables n mind
+        → node_step tables n mind w payload ≡ Some (new, after) → LooksAt tables n mind w }
+{
+    // What each mind's steps keep to, for the proof.
+    usable_tables();
+    train_steps();
+    track_steps();
+    box_steps();
+    machine_steps();
+}
+
 /// A step changes a word that its node owns, and its payload fits 32 bits.
 pub fn steps_of_owners()
     ensures { (tables : Tables) (n w payload new : ℕ) (mind after : Mind) → IsLine tables
@@ -48,7 +62,7 @@ pub fn steps_of_owners()
 
 /// The state after every run has its words, stamps and clocks in range, and well-formed minds.
 pub fn sound_runs()
-    ensures { (tables : Tables) (tries : ℕ) (events : List Event) → IsLine tables → tries ≤ 1000
+    ensures { (tables : Tables) (tries : ℕ) (events : List Event) → IsLine tables → AreFewTries tries
         → length events < 2 ^ 32 → IsRun tables tries events
         → IsSound tables (length events) (state tables tries events) }
 {
@@ -62,7 +76,7 @@ pub fn sound_runs()
 
 /// Every node begins with a well-formed mind of its kind, and every step leaves it one.
 pub fn kept_minds()
-    ensures start { (tables : Tables) (tries n : ℕ) → tries ≤ 1000 → HasMind tables n (start_mind tables tries n) }
+    ensures start { (tables : Tables) (tries n : ℕ) → AreFewTries tries → HasMind tables n (start_mind tables tries n) }
     ensures step { (tables : Tables) (n w payload new : ℕ) (mind after : Mind) → IsLine tables → HasMind tables n mind
         → node_step tables n mind w payload ≡ Some (new, after) → HasMind tables n after }
 {

@@ -6,7 +6,7 @@ ghost use Rattle.rl_steps.specs.Whos.{IsWho};
 
 use crate::laws::numbered;
 use crate::mind::Mind;
-use rl_base::{BoxId, NodeKind, NodeNo, TrainId};
+use rl_base::{BoxId, NodeNo, TrainId};
 use rl_box::BoxMind;
 use rl_tables::Line;
 use rl_track::{MachineMind, TrackMind};
@@ -21,18 +21,19 @@ pub enum Who<'a> {
     Machine(BoxId, &'a MachineMind),
 }
 
-/// Who the node is that has this mind.
+/// Who the node is that has this mind: the mind says of which kind it is, and the layout at which number.
+#[inline(always)]
 pub fn identify<'a>(line: &Line, node: NodeNo, mind: &'a Mind) -> Who<'a>
     requires there { node.0 < node_count (layout_of line.now) }
     requires mind { HasMind line.now node.0 mind.now }
     ensures { IsWho line.now node.0 mind.now result }
 {
     numbered();
-    match (line.layout().node_kind(node), mind) {
-        (NodeKind::Train(t), Mind::Train(m)) => Who::Train(t, m),
-        (NodeKind::Track(t), Mind::Track(m)) => Who::Track(t, m),
-        (NodeKind::Box(b), Mind::Box(m)) => Who::Box(b, m),
-        (NodeKind::Machine(b), Mind::Machine(m)) => Who::Machine(b, m),
-        _ => unreachable!(),
+    let lay = line.layout();
+    match mind {
+        Mind::Train(m) => Who::Train(TrainId(node.0), m),
+        Mind::Track(m) => Who::Track(TrainId(node.0 - lay.trains), m),
+        Mind::Box(m) => Who::Box(BoxId(node.0 - 2 * lay.trains), m),
+        Mind::Machine(m) => Who::Machine(BoxId(node.0 - 2 * lay.trains - lay.boxes), m),
     }
 }

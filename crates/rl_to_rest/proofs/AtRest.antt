@@ -52,6 +52,7 @@ all_rest tables tries c each t = by (nat_lt t (length tables.trains)) refl
 
 -- a train without steps rests at the start
 start_rests : (tables : Tables) (tries t : ℕ) → NoneMoves tables → t < length tables.trains → HasRestingTrain tables (start tables tries) t
+unfolding is_near
 start_rests tables tries t none here =
     let x = item_there tables.trains t here in
     let rows : x.0.rows ≡ [] = none t x.0 x.1 in

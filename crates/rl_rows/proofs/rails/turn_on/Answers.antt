@@ -11,8 +11,9 @@ pub returns-clause-formed : goal.returns-clause-formed
 returns-clause-formed c =
     let old = walk_of c.args.seat.now in
     let node : c.node.result ≡ old.node = c.node.ensures ∙ ap (λ (w : Walk). w.node) c.load-value.ensures.walk in
-    let P : NodeNo → Type 0 = λ n. c.act.result ≡ node_step c.args.line.now n.0 c.args.mind.now c.args.w.0 c.payload_of.result in
-    let step : c.act.result ≡ node_step c.args.line.now old.node.0 c.args.mind.now c.args.w.0 c.payload_of.result = subst P node c.act.ensures in
+    let P : NodeNo → Type 0 = λ n. c.act_anywhere.result ≡ node_step c.args.line.now n.0 c.args.mind.now c.args.w.0 c.payload_of.result in
+    let step : c.act_anywhere.result ≡ node_step c.args.line.now old.node.0 c.args.mind.now c.args.w.0 c.payload_of.result =
+    subst P node c.act_anywhere.ensures in
     c.kept_minds.ensures.step c.args.line.now old.node.0 c.args.w.0 c.payload_of.result c.in_ok-payload.payload c.args.mind.now c.in_ok-payload.after
     c.layout-lay.ensures.line c.requires.formed
     (sym step ∙ c.in_ok-payload.was)

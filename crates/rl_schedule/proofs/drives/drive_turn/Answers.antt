@@ -3,5 +3,5 @@ use Rattle.rl_schedule.proofs.drives.drive_turn.Goals as goal
 
 pub returns-then-passes-clause-ok : goal.returns-then-passes-clause-ok
 returns-then-passes-clause-ok c =
-    goes_passed c.args.core.now c.passes.new.self c.args.node.0 c.args.moves.now.items c.reached.ensures (c.passes.ensures.turned c.if-passes.true)
-    (c.passes.ensures.no_event c.if-passes.true) c.passes.ensures.line c.passes.ensures.tries
+    let idle = c.passes.ensures.passed c.if-passes.true in
+    goes_passed c.args.core.now c.passes.new.self c.args.node.0 c.args.moves.now.items c.reached.ensures idle.turned idle.no_event idle.line idle.tries

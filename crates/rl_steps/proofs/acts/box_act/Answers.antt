@@ -1,12 +1,10 @@
-use Rattle.std.proofs.Common.{◌≡◌, ℕ, ◌<◌, ◌≤◌, Option, Some, None, option_map, ap, ◌∙◌, sym, subst, slice_get, length, refl, arith}
-use Rattle.std.proofs.lemmas.Bool.Decides.{nat_tests}
-use Rattle.rl_base.specs.declared.ids.WordNo.{WordNo}
+use Rattle.std.proofs.Common.{◌≡◌, Some, ap, ◌∙◌, sym, subst, slice_get}
 use Rattle.rl_base.specs.declared.layout.Layout.{Layout}
 use Rattle.rl_base.specs.declared.layout.WordKind.{WordKind}
 use Rattle.rl_base.specs.Layout.{word_number, HasWord}
 use Rattle.rl_tables.specs.Starts.{layout_of}
-use Rattle.rl_steps.specs.declared.mind.Mind.TheVariants.{Train, Track, Box, Machine}
-use Rattle.rl_steps.specs.Step.{as_mind, node_step}
+use Rattle.rl_steps.specs.declared.mind.Mind.TheVariants.{Box}
+use Rattle.rl_steps.specs.Step.{as_mind}
 use Rattle.rl_box.specs.Steps.{box_step}
 use Rattle.rl_steps.proofs.Acting.{box_on}
 use Rattle.rl_steps.proofs.acts.box_act.Goals as goal

@@ -1,5 +1,4 @@
 use Rattle.rl_steps.proofs.FromCalls.{train_number}
-use Rattle.std.proofs.Common.{◌<◌}
 use Rattle.rl_steps.proofs.targets.train_target.Goals as goal
 
 pub target-requires-clause-there : goal.target-requires-clause-there

@@ -4,7 +4,7 @@ use Rattle.rl_tables.specs.Starts.{layout_of}
 use Rattle.rl_box.specs.Mind.{start_box}
 use Rattle.rl_box.specs.Steps.{box_target}
 use Rattle.rl_core.specs.Cores.{state_of}
-use Rattle.rl_core.specs.Watches.{waits_of}
+use Rattle.rl_core.specs.Speed.{waits_of}
 use Rattle.rl_core.proofs.Looking.{box_looked, box_sound, box_numbered}
 use Rattle.rl_core.proofs.Watching.{ready_box, no_step, glanced}
 use Rattle.rl_core.proofs.cores.Core.glance_place.Goals as goal

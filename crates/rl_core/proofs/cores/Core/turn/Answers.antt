@@ -3,6 +3,5 @@ use Rattle.rl_core.proofs.cores.Core.turn.Goals as goal
 
 pub returns-in-Some : goal.returns-in-Some
 returns-in-Some c =
-    let done = passed_by c.args.self.now c.pass.new.self c.args.node.0 c.in-Some.glance c.pass.result c.reached.ensures.sizes c.requires.there
-    c.in-Some.ensures c.pass.ensures.core c.pass.ensures.answer in
-    record { turned = done.turned; answer = done.answer_is; line = done.line; tries = done.tries; events = done.events }
+    passed_by c.args.self.now c.pass.new.self c.args.node.0 c.in-Some.glance c.pass.result c.reached.ensures.sizes c.requires.there c.in-Some.ensures
+    c.pass.ensures.core c.pass.ensures.answer

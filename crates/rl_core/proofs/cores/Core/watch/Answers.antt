@@ -1,7 +1,7 @@
 use Rattle.std.proofs.Common.{◌≡◌, ◌<◌, length, slice_get, Some, ap, sym, ◌∙◌, arith}
 use Rattle.std.proofs.lemmas.Option.{slice_get-get_or, get_or_from_slice_get}
-use Rattle.rl_core.specs.declared.watches.Watch.TheVariants.{Rarely}
-use Rattle.rl_core.specs.declared.watches.Rare.TheVariants.{Closely}
+use Rattle.rl_core.specs.declared.speed.Watch.TheVariants.{Rarely}
+use Rattle.rl_core.specs.declared.speed.Rare.TheVariants.{Closely}
 use Rattle.rl_core.proofs.cores.Core.watch.Goals as goal
 
 pub returns : goal.returns
