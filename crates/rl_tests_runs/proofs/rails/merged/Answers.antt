@@ -1,7 +1,7 @@
 use Rattle.std.proofs.Common.{◌≡◌, ℕ, zero, suc, ◌+◌, ◌<◌, List, [], ◌∷◌, ◌++◌, length, All, slice_get, slice_index_or, Some, None, sym, ap, ◌∙◌, subst, arith}
 use Rattle.rl_record.specs.declared.event.Event.{Event}
 use Rattle.rl_record.specs.Records.{Record, Rises, AreByNode}
-use Rattle.rl_rows.proofs.rails.merged.Goals as goal
+use Rattle.rl_tests_runs.proofs.rails.merged.Goals as goal
 
 -- a record of one event
 alone : (e : Event) (n : ℕ) → e.node.0 ≡ n → Rises (e ∷ []) × All (λ (f : Event). f.node.0 ≡ n) (e ∷ [])

@@ -5,7 +5,7 @@ use Rattle.rl_steps.specs.declared.mind.Mind.{Mind}
 use Rattle.rl_steps.specs.Step.{node_step}
 use Rattle.rl_rule.specs.declared.views.Walk.{Walk}
 use Rattle.rl_rule.specs.Seats.{walk_of}
-use Rattle.rl_rows.proofs.rails.turn_on.Goals as goal
+use Rattle.rl_tests_runs.proofs.rails.turn_on.Goals as goal
 
 pub returns-clause-formed : goal.returns-clause-formed
 returns-clause-formed c =
