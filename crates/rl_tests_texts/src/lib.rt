@@ -13,6 +13,8 @@ mod names;
 #[cfg(test)]
 mod nets;
 #[cfg(test)]
+mod plans;
+#[cfg(test)]
 mod records;
 #[cfg(test)]
 mod rings;
