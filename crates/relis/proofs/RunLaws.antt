@@ -23,7 +23,7 @@ use Rattle.rl_tables.specs.Kept.{IsLine}
 -- at most 32 trains with at most 1,000 attempts each, and ten moves for each attempt
 pub few_moves : (tables : Tables) (tries attempts moves : ℕ) → IsLine tables → AreFewTries tries → attempts ≤ length tables.trains * tries
     → moves ≤ MAX_ATTEMPT_MOVES * attempts → moves ≤ MAX_MOVES
-few_moves tables tries attempts moves line few posted made =
+few_moves tables tries attempts moves line few opened made =
     omega (arith, mul-le (length tables.trains) tries MAX_TRAINS MAX_TRIES line.few_trains few)
 
 pub fate_spent : (net : NetworkPlan) (tries t made refused : ℕ) (w : World) (fate : Fate) → fate ≡ Spent → FateFits net tries w t made refused fate

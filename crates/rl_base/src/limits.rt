@@ -55,13 +55,13 @@ pub const MAX_FATES_BYTES: usize = 4_194_304;
 pub const MAX_PACKETS: usize = 3_000_000;
 
 /// The most events of all nodes for one attempt of a train.
-pub const MAX_ATTEMPT_EVENTS: usize = 39;
+pub const MAX_ATTEMPT_EVENTS: usize = 59;
 
 /// The most events of one node for one attempt of a train.
-pub const MAX_ATTEMPT_NODE_EVENTS: usize = 19;
+pub const MAX_ATTEMPT_NODE_EVENTS: usize = 31;
 
 /// The most moves for one attempt of a train.
-pub const MAX_ATTEMPT_MOVES: usize = 10;
+pub const MAX_ATTEMPT_MOVES: usize = 14;
 
 /// The most events of the record of one node.
 pub const MAX_EVENTS: usize = 1_048_576;

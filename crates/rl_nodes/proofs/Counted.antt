@@ -43,7 +43,7 @@ pub record Counts : Type 0 where
       → length events ≤ MAX_ATTEMPT_EVENTS * attempts_of tables tries events
   pub node : (tables : Tables) (tries : ℕ) (events : List Event) (n : ℕ) (node : NodeKind) → IsLine tables → AreFewTries tries
       → IsRun tables tries events → node_at (layout_of tables) n ≡ Some node → events_by n events ≤ MAX_ATTEMPT_NODE_EVENTS * attempts_of tables tries events
-  pub posted : (tables : Tables) (tries : ℕ) (events : List Event) → attempts_of tables tries events ≤ length tables.trains * tries
+  pub opened : (tables : Tables) (tries : ℕ) (events : List Event) → attempts_of tables tries events ≤ length tables.trains * tries
 
 few_attempts : (tables : Tables) (tries : ℕ) → IsLine tables → AreFewTries tries → length tables.trains * tries ≤ MAX_TRAINS * MAX_TRIES
 few_attempts tables tries line few =
@@ -54,7 +54,7 @@ few_attempts tables tries line few =
 -- so a run has room in 32 bits
 pub room : Counts → (tables : Tables) (tries : ℕ) (log : List Event) → IsLine tables → AreFewTries tries → IsRun tables tries log → IsU32 (length log)
 room counts tables tries log line few run =
-    omega (arith, counts.events tables tries log line few run, counts.posted tables tries log, few_attempts tables tries line few)
+    omega (arith, counts.events tables tries log line few run, counts.opened tables tries log, few_attempts tables tries line few)
 
 -- the records of the nodes of a run, and its merge
 record_few : Counts → (tables : Tables) (tries : ℕ) (log : List Event) (records : List Record) → IsLine tables → AreFewTries tries → IsRun tables tries log
@@ -66,7 +66,7 @@ record_few counts tables tries log records line few run are size k d within =
     let there = node_there (layout_of tables) k (omega arith) in
     let made : length r.events ≡ events_by k log =
     ap (λ (l : List Event). length l) (are.each k r at) ∙ (length-reverse (history k log) ∙ length-filter (λ (e : Event). e.node.0 == k) log) in
-    omega (arith, made, counts.node tables tries log k there.0 line few run there.1, counts.posted tables tries log)
+    omega (arith, made, counts.node tables tries log k there.0 line few run there.1, counts.opened tables tries log)
 
 pub all_few : Counts → (tables : Tables) (tries : ℕ) (log : List Event) (records : List Record) (events : List Event) → IsLine tables → AreFewTries tries
     → IsRun tables tries log → AreRecordsOf log records → length records ≡ node_count (layout_of tables) → IsRun tables tries (reverse events)
@@ -74,6 +74,6 @@ pub all_few : Counts → (tables : Tables) (tries : ℕ) (log : List Event) (rec
 all_few counts tables tries log records events line few run are size merged =
     record {
       each = record_few counts tables tries log records line few run are size;
-      all = omega (arith, length-reverse events, counts.events tables tries (reverse events) line few merged, counts.posted tables tries (reverse events));
+      all = omega (arith, length-reverse events, counts.events tables tries (reverse events) line few merged, counts.opened tables tries (reverse events));
       fits = omega (arith, few_attempts tables tries line few);
     }

@@ -8,7 +8,7 @@ use Rattle.rl_protocol.specs.State.{State, start}
 use Rattle.rl_protocol.specs.Steps.{Step, StepFits, next}
 use Rattle.rl_protocol.specs.Runs.{state_after, IsStepRun}
 use Rattle.rl_protocol.specs.Agreement.{Agrees}
-use Rattle.rl_protocol.proofs.Jobs.{starts_holding, starts_unlocked, starts_standing, starts_closed, starts_beginning}
+use Rattle.rl_protocol.proofs.Jobs.{starts_holding, starts_unlocked, starts_standing, starts_closed, starts_beginning, starts_named}
 use Rattle.rl_protocol.proofs.Known.{Known, known}
 use Rattle.rl_protocol.proofs.Mail.{mailboxes_kept}
 use Rattle.rl_protocol.proofs.Answers.{answers_kept}
@@ -20,7 +20,7 @@ use Rattle.rl_protocol.proofs.LockHolds.{locked_kept}
 
 -- what is known of a step that fits a state that agrees
 pub known_of : (line : Line) (tries : ℕ) (s : State) (step : Step) → Agrees line tries s → StepFits line s step → Known line s step
-known_of line tries s step old fits = known line s step old.mailboxes old.locks fits
+known_of line tries s step old fits = known line s step old.mailboxes (λ t. (old.attempts t).ahead) old.locks fits
 
 pub agrees_next : (line : Line) (tries : ℕ) (s : State) (step : Step) → IsConsistent line → Agrees line tries s → StepFits line s step
     → Agrees line tries (next line s step)
@@ -39,7 +39,7 @@ agrees_next line tries s step laws old fits =
       mailboxes = mailboxes_kept line s step old.mailboxes fits known;
       answers = answers_kept line s step old.answers fits;
       passage = λ t. passage_kept line s step t (old.passage t) fits known;
-      attempts = λ t. attempts_kept line tries s step t (old.attempts t) fits known;
+      attempts = λ t. attempts_kept line tries s step t laws (old.attempts t) fits known;
     }
 
 -- a place at which someone holds at the start is an arm
@@ -52,7 +52,7 @@ pub agrees_start : (line : Line) (tries : ℕ) → IsConsistent line → Agrees 
 agrees_start line tries laws =
     record {
       reservations = record {
-        exact = λ t b x. laws.first t b x ∙ sym (starts_holding _ _ _ b x);
+        exact = λ t b x. laws.first t b x ∙ sym (starts_holding _ _ _ _ b x);
         free = λ b x h. first_free line b x (line.first_holder b x) laws (λ t. laws.first t b x) h;
       };
       locks = record {
@@ -79,6 +79,7 @@ agrees_start line tries laws =
         total = starts_closed tries;
         within = omega arith;
         under_way = λ h. absurd (false≢true (sym starts_beginning ∙ h));
+        ahead = λ h. absurd (false≢true (sym starts_named ∙ h));
       };
     }
 

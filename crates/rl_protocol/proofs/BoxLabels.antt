@@ -122,7 +122,7 @@ module _ (tables : Tables) (s : State) (b : ℕ) (table : BoxTable) (line : IsLi
   pub four : (tries : ℕ) → Agrees (line_of tables) tries s → (t : TrainId) (l : Letter) (waiting : Option Path) → s.boxes b ≡ box_at (Serve t l) waiting
       → l.x.0 < 4
   four tries agrees t l waiting is =
-      let has = taken (line_of tables) s b t.0 l agrees.mailboxes (agrees.mailboxes.serves b t l (ap (λ (m : BoxMind). m.work) is)) in
+      let has = taken (line_of tables) s b t.0 l agrees.mailboxes (λ u. (agrees.attempts u).ahead) (agrees.mailboxes.serves b t l (ap (λ (m : BoxMind). m.work) is)) in
       let arm = letter_arm (line_of tables) (row_of (line_of tables) t.0 (s.trains t.0)) (s.trains t.0).job l
       (row_arms (line_of tables) t.0 (s.trains t.0).step (consistent_line tables line) (waiting_within (line_of tables) tries s t.0 agrees has.waits))
       has.letter in

@@ -1,5 +1,5 @@
 -- Each line of the sentences of the minds is a step of the whole state.
-use Rattle.std.proofs.Common.{◌≡◌, ℕ, ◌+◌, ◌==◌, Bool, true, false, not, ◌&&◌, ◌||◌, length, slice_get, Some, option_and_then, refl, sym, ap, ◌∙◌, subst, arith}
+use Rattle.std.proofs.Common.{◌≡◌, ℕ, ◌+◌, ◌==◌, Bool, true, false, not, ◌&&◌, ◌||◌, length, slice_get, Option, Some, None, option_and_then, refl, sym, ap, ◌∙◌, subst, arith}
 use Rattle.std.specs.Prelude.{unwrap_or}
 use Rattle.std.specs.Option.{option_map_or}
 use Rattle.rl_base.specs.declared.job.Job.TheVariants.{Pass, Unlock}
@@ -15,7 +15,7 @@ use Rattle.rl_tables.specs.declared.table.StepRow.{StepRow}
 use Rattle.rl_tables.specs.declared.table.TrainTable.{TrainTable}
 use Rattle.rl_tables.specs.declared.table.Tables.{Tables}
 use Rattle.rl_train.specs.declared.mind.TrainMind.{TrainMind}
-use Rattle.rl_train.specs.Mind.{at_rest}
+use Rattle.rl_train.specs.Mind.{looks_on, at_rest}
 use Rattle.rl_train.specs.Steps.{TrainStep}
 use Rattle.rl_train.specs.Steps as trains
 use Rattle.rl_train.specs.Steps.TrainStep.{post as posts, hear_yes as hears_yes, hear_no as hears_no, go as goes, quiet as quiets}
@@ -26,9 +26,9 @@ use Rattle.rl_track.specs.Track.TrackStep.{enter as enters, head as heads, leave
 use Rattle.rl_track.specs.Machine.{MachineStep}
 use Rattle.rl_track.specs.Machine.MachineStep.{throw as throws, settle as settles}
 use Rattle.rl_protocol.specs.Line.{Line}
-use Rattle.rl_train.specs.Jobs.{letter, after_yes, after_no, is_pass, is_near}
+use Rattle.rl_train.specs.Jobs.{looks_ahead, letter, after_no, is_pass, is_near}
 use Rattle.rl_protocol.specs.State.{State, put}
-use Rattle.rl_protocol.specs.Minds.{train, box, at_rest as line_at_rest, row_of, letter_of, heard, passed}
+use Rattle.rl_protocol.specs.Minds.{train, box, at_rest as line_at_rest, looks_on as line_looks_on, row_of, letter_of, heard}
 use Rattle.rl_protocol.specs.Steps.{post, hear_yes, hear_no, go, quiet, throw, settle, enter, head, leave, tail}
 use Rattle.rl_protocol.specs.TableLine.{no_row, line_of}
 use Rattle.rl_protocol.specs.Sentences.{StateSays, with_train, with_track, MakesStep}
@@ -41,6 +41,17 @@ row_is tables t table mind row e f =
 
 steps_are : (tables : Tables) (t : ℕ) (table : TrainTable) → slice_get tables.trains t ≡ Some table → (line_of tables).steps t ≡ length table.rows
 steps_are tables t table e = ap (λ o. option_map_or (λ (x : TrainTable). length x.rows) o 0) e
+
+-- whether the step after a train's own looks ahead: a row that isn't there doesn't
+pub looks_on_is : (tables : Tables) (t : ℕ) (table : TrainTable) (mind : TrainMind) → slice_get tables.trains t ≡ Some table
+    → line_looks_on (line_of tables) t mind ≡ looks_on table mind
+looks_on_is tables t table mind e =
+    ap (λ o. looks_ahead (unwrap_or (option_and_then (λ (x : TrainTable). slice_get x.rows (mind.step + 1)) o) no_row)) e
+    ∙ by_row (slice_get table.rows (mind.step + 1))
+  where
+    by_row : (o : Option StepRow) → looks_ahead (unwrap_or o no_row) ≡ option_map_or looks_ahead o false
+    by_row None = refl
+    by_row (Some row) = refl
 
 resting_is : (tables : Tables) (t : ℕ) (table : TrainTable) (mind : TrainMind) → slice_get tables.trains t ≡ Some table → at_rest table mind ≡ false
     → line_at_rest (line_of tables) t mind ≡ false
@@ -56,12 +67,11 @@ module _ (tables : Tables) (s : State) (t : ℕ) (table : TrainTable) (there : s
       → letter_of (line_of tables) t (s.trains t) ≡ Some l
   letter_is row l e f = ap (λ r. letter r (s.trains t).job) (row_is tables t table (s.trains t) row there e) ∙ f
 
-  heard_is : (row : StepRow) → slice_get table.rows (s.trains t).step ≡ Some row → heard (line_of tables) t (s.trains t) ≡ trains.heard row (s.trains t)
-  heard_is row e = ap (λ r. trains.heard r (s.trains t)) (row_is tables t table (s.trains t) row there e)
-
-  passed_is : (s.trains t).job ≡ Pass → passed (line_of tables) t (s.trains t) ≡ record (s.trains t) { waits = false; job = Unlock }
-  unfolding after_yes
-  passed_is h = ap (λ j. record (s.trains t) { waits = false; job = after_yes (row_of (line_of tables) t (s.trains t)) j }) h
+  heard_is : (row : StepRow) → slice_get table.rows (s.trains t).step ≡ Some row
+      → heard (line_of tables) t (s.trains t) ≡ trains.heard row (looks_on table (s.trains t)) (s.trains t)
+  heard_is row e =
+      ap (λ r. trains.heard r (line_looks_on (line_of tables) t (s.trains t)) (s.trains t)) (row_is tables t table (s.trains t) row there e)
+      ∙ ap (λ more. trains.heard row more (s.trains t)) (looks_on_is tables t table (s.trains t) there)
 
   passes_is : (s.trains t).job ≡ Pass → is_pass (s.trains t).job ≡ true
   unfolding is_pass
@@ -122,7 +132,7 @@ module _ (tables : Tables) (s : State) (t : ℕ) (table : TrainTable) (there : s
         fits = (waits, passes_is job, subst (λ n. s.sense n.0 ≡ senses.Tail (s.trains t).step) number has);
         by_node = refl;
         on_word = refl;
-        leaves = ap (λ m. record s { trains = put s.trains t m; sense = put s.sense t (senses.Quiet ((s.trains t).step + 1)) }) (passed_is job);
+        leaves = refl;
       })
 
 -- a track has no table, nor has a machine

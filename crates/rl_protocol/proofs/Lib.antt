@@ -2,6 +2,8 @@ pub mod Jobs
 pub mod Known
 pub mod Mail
 pub mod Answers
+pub mod Asked
+mod Asked
 pub mod Points
 pub mod Passage
 pub mod Attempts

@@ -127,10 +127,10 @@ module _ (net : NetworkPlan) (line : Line) (tries : ℕ) (s : State) (network : 
 
   -- so it holds and has locked what is of its job
   passing_holding : (t b x : ℕ) → is_passing (s.trains t) ≡ true
-      → is_held_by t (s.resv b x) ≡ (line.ends t (s.trains t).step b x || line.ends t ((s.trains t).step + 1) b x)
-  passing_holding t b x h =
+      → (line.ends t (s.trains t).step b x || line.ends t ((s.trains t).step + 1) b x) ≡ true → is_held_by t (s.resv b x) ≡ true
+  passing_holding t b x h ends =
       agrees.reservations.exact t b x ∙ by_job (passing_mail t h)
-      ∙ passing_holds (row_of line t (s.trains t)) (s.trains t).job _ _ b x (and_parts (s.trains t).waits (is_pass (s.trains t).job) h).1
+      ∙ passing_holds (row_of line t (s.trains t)) (s.trains t).job _ _ _ b x (and_parts (s.trains t).waits (is_pass (s.trains t).job) h).1 ends
     where
       by_job : s.mail t ≡ Empty → holds line s t b x ≡ job_holds line t (s.trains t) b x
       by_job mail = ap (λ m. held_with (done_in (λ c. has_done_for t (s.boxes c)) m) b x (job_holds line t (s.trains t) b x)) mail
@@ -177,9 +177,9 @@ module _ (net : NetworkPlan) (line : Line) (tries : ℕ) (s : State) (network : 
       let there = to_there t (k + 1) (line.row t k).s2.0 to in
       holds_both net (world_at net s) t (line.row t k).s2.0 there.0 there.1
       (λ c i h.
-      held_at net s t (line.row t k).s2.0 c i h ∙ passing_holding t c i passing
-      ∙ or_right _ _ (ap (λ z. line.ends t (z + 1) c i) at_k ∙ of.ends t (k + 1) c i
-      ∙ ap (λ o. same_number o (route_segment net t (k + 1))) (are.to_segment _ c i h) ∙ number_is _ _ to))
+      held_at net s t (line.row t k).s2.0 c i h
+      ∙ passing_holding t c i passing (or_right _ _ (ap (λ z. line.ends t (z + 1) c i) at_k ∙ of.ends t (k + 1) c i
+      ∙ ap (λ o. same_number o (route_segment net t (k + 1))) (are.to_segment _ c i h) ∙ number_is _ _ to)))
 
   enter_locks : (t k : ℕ) → is_passing (s.trains t) ≡ true → (s.trains t).step ≡ k → let row = line.row t k in
       is_locked_by (s.lock row.b.0) t row.x.0 row.y.0 ≡ true

@@ -84,8 +84,8 @@ unlock_path line tries s t l agrees waits is verb =
 done_is : (line : Line) (tries : ℕ) (s : State) (t : ℕ) (l : Letter) → Agrees line tries s → done_letter s t ≡ Some l → Waits line s t l
 done_is line tries s t l agrees h =
     let done : (s.mail t ≡ Taken l) ⊎ (s.mail t ≡ Yes l) = grind (arith, nat_tests) in
-    ⊎_elim (λ e. let it = taken line s l.to.0 t l agrees.mailboxes (e, refl) in record { waits = it.waits; active = it.active; letter = it.letter })
-    (λ e. answered line s t l agrees.mailboxes e) done
+    ⊎_elim (λ e. let it = taken line s l.to.0 t l agrees.mailboxes (λ u. (agrees.attempts u).ahead) (e, refl) in record { waits = it.waits; active = it.active; letter = it.letter })
+    (λ e. answered line s t l agrees.mailboxes (λ u. (agrees.attempts u).ahead) e) done
 
 -- a lock that is had after a letter is had before it, or it is the one that the letter asks for
 locked_by : (verb : Verb) (there locked : Bool) → locked_after verb there locked ≡ true → (locked ≡ true) ⊎ ((verb ≡ verbs.Lock) × (there ≡ true))
@@ -140,8 +140,8 @@ lock_held line tries s b t l laws agrees has verb =
     let ahead_b : line.ends t ((s.trains t).step + 1) b l.y.0 ≡ true =
     subst (λ z. line.ends t ((s.trains t).step + 1) z l.y.0 ≡ true) at_box
     (subst (λ z. line.ends t ((s.trains t).step + 1) (row_of line t (s.trains t)).b.0 z ≡ true) at_y ahead) in (
-      agrees.reservations.exact t b l.x.0 ∙ by_job has.mail verb l.x.0 ∙ asks.holds _ _ b l.x.0 ∙ or_left _ _ here_b,
-      agrees.reservations.exact t b l.y.0 ∙ by_job has.mail verb l.y.0 ∙ asks.holds _ _ b l.y.0 ∙ or_right _ _ ahead_b,
+      agrees.reservations.exact t b l.x.0 ∙ by_job has.mail verb l.x.0 ∙ asks.holds _ _ _ b l.x.0 (or_left _ _ here_b),
+      agrees.reservations.exact t b l.y.0 ∙ by_job has.mail verb l.y.0 ∙ asks.holds _ _ _ b l.y.0 (or_right _ _ ahead_b),
     )
   where
     by_job : s.mail t ≡ Taken l → l.verb ≡ verbs.Lock → (x : ℕ) → holds line s t b x ≡ job_holds line t (s.trains t) b x

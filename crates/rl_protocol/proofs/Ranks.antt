@@ -1,6 +1,7 @@
 -- Ranks: the most that the events of a train's open attempt can weigh so far.
-use Rattle.std.proofs.Common.{◌≡◌, ◌≢◌, ℕ, ◌+◌, ◌*◌, ◌≤◌, ◌==◌, true, cond, if◌then◌else◌, Option, Some, None, refl, arith}
+use Rattle.std.proofs.Common.{◌≡◌, ◌≢◌, ℕ, ◌+◌, ◌*◌, ◌≤◌, ◌==◌, Bool, true, cond, if◌then◌else◌, Option, Some, None, refl, arith}
 use Rattle.std.proofs.lemmas.Option.{none-some}
+use Rattle.std.proofs.lemmas.Bool.{cases_Bool}
 use Rattle.std.proofs.lemmas.Bool.Decides.{nat_tests}
 use Rattle.rl_base.specs.declared.ids.TrainId.{TrainId}
 use Rattle.rl_base.specs.declared.job.Job.{Job}
@@ -24,11 +25,12 @@ use Rattle.rl_box.specs.declared.mind.Work.TheVariants.{Ready, Serve, Say}
 use Rattle.rl_track.specs.declared.track.TrackPhase.{TrackPhase}
 use Rattle.rl_track.specs.declared.track.TrackPhase.TheVariants.{HeadDue, TailDue}
 use Rattle.rl_protocol.specs.Line.{Line}
-use Rattle.rl_train.specs.Jobs.{letter, after_yes, after_no, is_pass, is_near}
+use Rattle.rl_train.specs.Jobs.{looks_ahead, letter, after_yes, after_no, reopens, is_pass, is_near}
 use Rattle.rl_protocol.specs.State.{State, start}
 use Rattle.rl_protocol.specs.Steps.{Step, post, hear_yes, hear_no, go, quiet, take, grant, refuse, release, lock_now, lock_ask, lock_moved, unlock, say_yes}
 use Rattle.rl_protocol.specs.Steps.{say_no, busy, throw, settle, enter, head, leave, tail}
 use Rattle.rl_protocol.specs.Held.{is_path_of}
+use Rattle.rl_protocol.proofs.Letters.{next_verb}
 
 -- what each kind of step weighs. A box grants or denies what it is asked, and tells the answer
 pub record Weights : Type 0 where
@@ -111,7 +113,7 @@ passage_weight w = w.go + w.enter + w.head + w.leave + w.tail + w.quiet
 
 -- all that an attempt can weigh
 abbrev pub attempt_weight : Weights → ℕ
-attempt_weight w = 6 * letter_weight w + points_weight w + passage_weight w
+attempt_weight w = 10 * letter_weight w + points_weight w + passage_weight w
 
 -- what a verb can weigh beside a letter
 abbrev pub verb_weight : Weights → Verb → ℕ
@@ -120,17 +122,22 @@ verb_weight w verbs.Release = 0
 verb_weight w verbs.Lock = points_weight w
 verb_weight w verbs.Unlock = 0
 
--- what came before the letter of a job, or before its passage
+-- the most that can have come before the letter of a job, or before its passage, since the attempt was opened. The drops
+-- stand last, so that each job's rank is that of the one before it and a letter
 unfoldable pub job_rank : Weights → Job → ℕ
 job_rank w jobs.Near = 0
 job_rank w jobs.Far = letter_weight w
-job_rank w jobs.Lock = 2 * letter_weight w
-job_rank w jobs.Pass = 3 * letter_weight w + points_weight w
-job_rank w jobs.Unlock = 3 * letter_weight w + points_weight w + passage_weight w
-job_rank w jobs.FreeNear = 4 * letter_weight w + points_weight w + passage_weight w
-job_rank w jobs.FreeFar = 5 * letter_weight w + points_weight w + passage_weight w
-job_rank w jobs.DropFar = 3 * letter_weight w + points_weight w
-job_rank w jobs.DropNear = 4 * letter_weight w + points_weight w
+job_rank w jobs.Near2 = 2 * letter_weight w
+job_rank w jobs.Far2 = 3 * letter_weight w
+job_rank w jobs.Lock = 4 * letter_weight w
+job_rank w jobs.Pass = 5 * letter_weight w + points_weight w
+job_rank w jobs.Unlock = 5 * letter_weight w + points_weight w + passage_weight w
+job_rank w jobs.FreeNear = 6 * letter_weight w + points_weight w + passage_weight w
+job_rank w jobs.FreeFar = 7 * letter_weight w + points_weight w + passage_weight w
+job_rank w jobs.DropFar2 = 6 * letter_weight w + points_weight w + passage_weight w
+job_rank w jobs.DropNear2 = 7 * letter_weight w + points_weight w + passage_weight w
+job_rank w jobs.DropFar = 8 * letter_weight w + points_weight w + passage_weight w
+job_rank w jobs.DropNear = 9 * letter_weight w + points_weight w + passage_weight w
 
 -- what the box has done of a letter
 abbrev pub work_rank : Weights → ℕ → Work → ℕ
@@ -181,53 +188,71 @@ rank w s t =
     then job_rank w m.job + (if is_pass m.job then run_rank w (s.tracks t).phase (s.run t) else mail_rank w s t (s.mail t))
     else ready_rank w m.job
 
--- with the answer heard a letter has weighed what it can
-pub rank_heard : (w : Weights) (row : StepRow) (job : Job) (l : Letter) → letter row job ≡ Some l
-    → job_rank w job + letter_weight w + verb_weight w l.verb ≤ ready_rank w (after_yes row job)
-unfolding letter after_yes job_rank is_near
-rank_heard w row jobs.Near l h = grind arith
-rank_heard w row jobs.Far l h = grind arith
-rank_heard w row jobs.Lock l h = grind arith
-rank_heard w row jobs.Pass l h = absurd (none-some l h)
-rank_heard w row jobs.Unlock l h = grind arith
-rank_heard w row jobs.FreeNear l h = grind arith
-rank_heard w row jobs.FreeFar l h = grind arith
-rank_heard w row jobs.DropFar l h = grind arith
-rank_heard w row jobs.DropNear l h = grind arith
+-- with the answer heard a letter has weighed what it can, in the attempt that goes on, or in the one that ends where the
+-- next is opened
+pub rank_heard : (w : Weights) (row : StepRow) (more spent : Bool) (job : Job) (l : Letter) → letter row job ≡ Some l
+    → job_rank w job + letter_weight w + verb_weight w l.verb
+    ≤ ready_rank w (after_yes row more spent job) + cond (reopens row spent job) (attempt_weight w) 0
+unfolding letter after_yes job_rank is_near reopens
+rank_heard w row more spent jobs.Near l h = grind arith
+rank_heard w row more spent jobs.Far l h = grind (arith, cases_Bool (looks_ahead row))
+rank_heard w row more spent jobs.Near2 l h = let own = next_verb row.next _ verbs.Reserve l (λ n. refl) h in grind arith
+rank_heard w row more spent jobs.Far2 l h = let own = next_verb row.next _ verbs.Reserve l (λ n. refl) h in grind arith
+rank_heard w row more spent jobs.Lock l h = grind arith
+rank_heard w row more spent jobs.Pass l h = absurd (none-some l h)
+rank_heard w row more spent jobs.Unlock l h = grind arith
+rank_heard w row more spent jobs.FreeNear l h = grind arith
+rank_heard w row more spent jobs.FreeFar l h = grind (arith, cases_Bool (looks_ahead row), cases_Bool spent, cases_Bool more)
+rank_heard w row more spent jobs.DropFar2 l h = let own = next_verb row.next _ verbs.Release l (λ n. refl) h in grind arith
+rank_heard w row more spent jobs.DropNear2 l h = let own = next_verb row.next _ verbs.Release l (λ n. refl) h in grind arith
+rank_heard w row more spent jobs.DropFar l h = grind arith
+rank_heard w row more spent jobs.DropNear l h = grind arith
 
 pub rank_denied : (w : Weights) (row : StepRow) (job new : Job) → after_no row job ≡ Some new → job_rank w job + letter_weight w ≤ ready_rank w new
 unfolding after_no job_rank is_near
 rank_denied w row jobs.Near new h = grind arith
 rank_denied w row jobs.Far new h = grind arith
-rank_denied w row jobs.Lock new h = grind arith
+rank_denied w row jobs.Near2 new h = grind arith
+rank_denied w row jobs.Far2 new h = grind arith
+rank_denied w row jobs.Lock new h = grind (arith, cases_Bool (looks_ahead row))
 rank_denied w row jobs.Pass new h = grind arith
 rank_denied w row jobs.Unlock new h = grind arith
 rank_denied w row jobs.FreeNear new h = grind arith
 rank_denied w row jobs.FreeFar new h = grind arith
+rank_denied w row jobs.DropFar2 new h = grind arith
+rank_denied w row jobs.DropNear2 new h = grind arith
 rank_denied w row jobs.DropFar new h = grind arith
 rank_denied w row jobs.DropNear new h = grind arith
 
-pub rank_passed : (w : Weights) (row : StepRow) (job : Job) → is_pass job ≡ true → job_rank w job + passage_weight w ≤ ready_rank w (after_yes row job)
-unfolding is_pass after_yes job_rank is_near
-rank_passed w row jobs.Near h = cc
-rank_passed w row jobs.Far h = cc
-rank_passed w row jobs.Lock h = cc
-rank_passed w row jobs.Pass h = omega arith
-rank_passed w row jobs.Unlock h = cc
-rank_passed w row jobs.FreeNear h = cc
-rank_passed w row jobs.FreeFar h = cc
-rank_passed w row jobs.DropFar h = cc
-rank_passed w row jobs.DropNear h = cc
+pub rank_passed : (w : Weights) (job : Job) → is_pass job ≡ true → job_rank w job + passage_weight w ≤ ready_rank w jobs.Unlock
+unfolding is_pass job_rank is_near
+rank_passed w jobs.Near h = cc
+rank_passed w jobs.Far h = cc
+rank_passed w jobs.Near2 h = cc
+rank_passed w jobs.Far2 h = cc
+rank_passed w jobs.Lock h = cc
+rank_passed w jobs.Pass h = omega arith
+rank_passed w jobs.Unlock h = cc
+rank_passed w jobs.FreeNear h = cc
+rank_passed w jobs.FreeFar h = cc
+rank_passed w jobs.DropFar2 h = cc
+rank_passed w jobs.DropNear2 h = cc
+rank_passed w jobs.DropFar h = cc
+rank_passed w jobs.DropNear h = cc
 
 pub rank_opened : (w : Weights) (job : Job) → is_near job ≡ true → job_rank w job ≡ 0
 unfolding is_near job_rank
 rank_opened w jobs.Near h = refl
 rank_opened w jobs.Far h = cc
+rank_opened w jobs.Near2 h = cc
+rank_opened w jobs.Far2 h = cc
 rank_opened w jobs.Lock h = cc
 rank_opened w jobs.Pass h = cc
 rank_opened w jobs.Unlock h = cc
 rank_opened w jobs.FreeNear h = cc
 rank_opened w jobs.FreeFar h = cc
+rank_opened w jobs.DropFar2 h = cc
+rank_opened w jobs.DropNear2 h = cc
 rank_opened w jobs.DropFar h = cc
 rank_opened w jobs.DropNear h = cc
 
@@ -236,11 +261,15 @@ pub rank_ready : (w : Weights) (job : Job) → ready_rank w job ≤ attempt_weig
 unfolding job_rank is_near
 rank_ready w jobs.Near = omega arith
 rank_ready w jobs.Far = omega arith
+rank_ready w jobs.Near2 = omega arith
+rank_ready w jobs.Far2 = omega arith
 rank_ready w jobs.Lock = omega arith
 rank_ready w jobs.Pass = omega arith
 rank_ready w jobs.Unlock = omega arith
 rank_ready w jobs.FreeNear = omega arith
 rank_ready w jobs.FreeFar = omega arith
+rank_ready w jobs.DropFar2 = omega arith
+rank_ready w jobs.DropNear2 = omega arith
 rank_ready w jobs.DropFar = omega arith
 rank_ready w jobs.DropNear = omega arith
 
@@ -249,11 +278,15 @@ pub rank_asking : (w : Weights) (row : StepRow) (job : Job) (l : Letter) → let
 unfolding letter job_rank
 rank_asking w row jobs.Near l h = grind arith
 rank_asking w row jobs.Far l h = grind arith
+rank_asking w row jobs.Near2 l h = let own = next_verb row.next _ verbs.Reserve l (λ n. refl) h in grind arith
+rank_asking w row jobs.Far2 l h = let own = next_verb row.next _ verbs.Reserve l (λ n. refl) h in grind arith
 rank_asking w row jobs.Lock l h = grind arith
 rank_asking w row jobs.Pass l h = absurd (none-some l h)
 rank_asking w row jobs.Unlock l h = grind arith
 rank_asking w row jobs.FreeNear l h = grind arith
 rank_asking w row jobs.FreeFar l h = grind arith
+rank_asking w row jobs.DropFar2 l h = let own = next_verb row.next _ verbs.Release l (λ n. refl) h in grind arith
+rank_asking w row jobs.DropNear2 l h = let own = next_verb row.next _ verbs.Release l (λ n. refl) h in grind arith
 rank_asking w row jobs.DropFar l h = grind arith
 rank_asking w row jobs.DropNear l h = grind arith
 
@@ -261,11 +294,15 @@ pub rank_passing : (w : Weights) (job : Job) → is_pass job ≡ true → job_ra
 unfolding is_pass job_rank
 rank_passing w jobs.Near h = cc
 rank_passing w jobs.Far h = cc
+rank_passing w jobs.Near2 h = cc
+rank_passing w jobs.Far2 h = cc
 rank_passing w jobs.Lock h = cc
 rank_passing w jobs.Pass h = omega arith
 rank_passing w jobs.Unlock h = cc
 rank_passing w jobs.FreeNear h = cc
 rank_passing w jobs.FreeFar h = cc
+rank_passing w jobs.DropFar2 h = cc
+rank_passing w jobs.DropNear2 h = cc
 rank_passing w jobs.DropFar h = cc
 rank_passing w jobs.DropNear h = cc
 

@@ -46,7 +46,7 @@ module _ (line : Line) (tries : ℕ) (s : State) (agrees : Agrees line tries s) 
   pub rest_holds : (b x : ℕ) → is_held_by t (s.resv b x) ≡ line.ends t (s.trains t).step b x
   rest_holds b x =
       agrees.reservations.exact t b x ∙ ap (λ m. held_with (done_in (λ c. has_done_for t (s.boxes c)) m) b x (job_holds line t (s.trains t) b x)) rest_mail
-      ∙ beginning_holds (row_of line t (s.trains t)) (s.trains t).job _ _ b x may_begin
+      ∙ beginning_holds (row_of line t (s.trains t)) (s.trains t).job _ _ _ b x may_begin
 
   pub rest_unlocked : (b x y : ℕ) → is_locked_by (s.lock b) t x y ≡ false
   rest_unlocked b x y =

@@ -76,7 +76,7 @@ path_is p t l e f g = grind arith
 module _ (line : Line) (tries : ℕ) (s : State) (laws : IsConsistent line) (agrees : Agrees line tries s) (b t : ℕ) (l : Letter)
     (serves : (s.boxes b).work ≡ Serve (train t) l) where
   has : HasTaken line s b t l
-  has = taken line s b t l agrees.mailboxes (agrees.mailboxes.serves b (train t) l serves)
+  has = taken line s b t l agrees.mailboxes (λ u. (agrees.attempts u).ahead) (agrees.mailboxes.serves b (train t) l serves)
 
   within : (s.trains t).step < line.steps t
   within = waiting_within line tries s t agrees has.waits
@@ -127,7 +127,7 @@ module _ (line : Line) (tries : ℕ) (s : State) (laws : IsConsistent line) (agr
     where
       meet : (p : Path) → (s.boxes b).waiting ≡ Some p → ⊥
       meet p is =
-          let other = taken_path line s b p agrees.mailboxes is in
+          let other = taken_path line s b p agrees.mailboxes (λ u. (agrees.attempts u).ahead) is in
           let point = agrees.locks.points b p is in
           let held = lock_held line tries s b t l laws agrees has verb in
           let theirs = lock_held line tries s b p.train.0 (letter_of_path b p) laws agrees other refl in

@@ -3,7 +3,7 @@ use Rattle.std.proofs.Common.{◌≡◌, ◌≢◌, ℕ, zero, suc, ◌+◌, ◌
 use Rattle.std.proofs.Common.{None, option_and_then, refl, sym, ap, ◌∙◌, subst, ⊎_elim, arith}
 use Rattle.std.specs.Prelude.{is_some, option_map, unwrap_or, find}
 use Rattle.std.specs.Option.{option_map_or}
-use Rattle.std.proofs.lemmas.Bool.{false≢true, eq-eqb, eqb-true, ltb-true, and_from, or_left, or_right, or_cases, and_parts, cases_lt}
+use Rattle.std.proofs.lemmas.Bool.{false≢true, eq-eqb, eqb-true, ltb-true, lt-ltb, and_from, or_left, or_right, or_cases, and_parts, cases_lt}
 use Rattle.std.proofs.lemmas.Option.{option_and_then_some, slice_get_within, slice_get_past, same_Some}
 use Rattle.std.proofs.lemmas.Bool.Decides.{nat_tests}
 use Rattle.rl_base.specs.declared.ids.SegId.{SegId}
@@ -15,12 +15,14 @@ use Rattle.rl_model.specs.declared.network.Train.{Train}
 use Rattle.rl_model.specs.declared.network.NetworkPlan.{NetworkPlan}
 use Rattle.rl_model.specs.Network.{kind_of, start_side, segment_at, steps_of, route_segment, IsStep, IsNetwork}
 use Rattle.rl_tables.specs.declared.table.BoxTable.{BoxTable}
+use Rattle.rl_tables.specs.declared.table.NextRow.{NextRow}
 use Rattle.rl_tables.specs.declared.table.StepRow.{StepRow}
 use Rattle.rl_tables.specs.declared.table.TrainTable.{TrainTable}
 use Rattle.rl_tables.specs.declared.table.Tables.{Tables}
-use Rattle.rl_tables.specs.Kept.{line_segment, IsArm, IsOnlyAt, IsLine}
+use Rattle.rl_tables.specs.Kept.{line_segment, IsArm, IsOnlyAt, next_in, IsAhead, IsLine}
 use Rattle.rl_tables.specs.Tables.{segment_in, segment_number, AreTablesOf, IsStepRow}
 use Rattle.rl_tables.specs.Starts.{starter_of}
+use Rattle.rl_train.specs.Jobs.{looks_ahead}
 use Rattle.rl_protocol.specs.Line.{is_number, same_number, is_held_by, IsStepOf, IsConsistent}
 use Rattle.rl_protocol.specs.Worlds.{IsLineOf, IsRailway}
 use Rattle.rl_protocol.specs.Counts.{HasTrains}
@@ -134,6 +136,21 @@ one_segment : (o : Option ℕ) (s s2 : ℕ) → s ≢ s2 → same_number o (Some
 one_segment None s s2 apart h = refl
 one_segment (Some n) s s2 apart h = grind (arith, nat_tests)
 
+-- the row of a train that is there
+row_at : (tables : Tables) (t k : ℕ) (x : TrainTable) (row : StepRow) → slice_get tables.trains t ≡ Some x → slice_get x.rows k ≡ Some row
+    → (line_of tables).row t k ≡ row
+row_at tables t k x row e f =
+    ap (λ o. unwrap_or (option_and_then (λ (x : TrainTable). slice_get x.rows k) o) no_row) e ∙ ap (λ o. unwrap_or o no_row) f
+
+-- a row that looks ahead looks at the row after it
+ahead_is : (tables : Tables) (t k : ℕ) (x : TrainTable) (row : StepRow) → IsLine tables → slice_get tables.trains t ≡ Some x → slice_get x.rows k ≡ Some row
+    → looks_ahead row ≡ true → (n : NextRow) × IsAhead x.rows k row n
+ahead_is tables t k x row line e f looks = of row.next refl looks
+  where
+    of : (o : Option NextRow) → row.next ≡ o → is_some o ≡ true → (n : NextRow) × IsAhead x.rows k row n
+    of None g h = absurd (false≢true h)
+    of (Some n) g h = (n, (line.trains t x e).next k row n f g)
+
 row_is : (tables : Tables) (t k : ℕ) → IsLine tables → k < (line_of tables).steps t → IsStepOf (line_of tables) t k ((line_of tables).row t k)
 row_is tables t k line h =
     let there = row_there tables t k h in
@@ -153,7 +170,25 @@ row_is tables t k line h =
       back_apart = is.back_apart;
       far_apart = is.far_apart;
       joined = is.joined;
+      next_is = λ n looks.
+          let ahead = (line.trains t x there.2).next k row n there.3 looks in
+          ahead.next_is ∙ ap next_in (sym (row_at tables t (k + 1) x ahead.after there.2 ahead.there));
+      more = λ looks.
+          let ahead = (ahead_is tables t k x row line there.2 there.3 looks).1 in
+          subst (λ n. k + 1 < n) (sym (steps_of_table x there.2)) (slice_get_within x.rows (k + 1) ahead.after ahead.there);
+      beyond_apart = λ looks b z h.
+          let ahead = (ahead_is tables t k x row line there.2 there.3 looks).1 in
+          let beyond : route_of tables t (k + 2) ≡ Some ahead.after.s2.0 =
+          ap (route_of tables t) (two k) ∙ route_is tables t (k + 1 + 1) x there.2 ∙ to_is x (k + 1) ahead.after ahead.there in
+          ap (same_number (line_segment tables b z)) beyond
+          ∙ one_segment (line_segment tables b z) row.s.0 ahead.after.s2.0 (λ e. ahead.apart (sym e)) (sym (ap (same_number (line_segment tables b z)) from) ∙ h);
     })
+  where
+    two : (n : ℕ) → n + 2 ≡ n + 1 + 1
+    two n = omega arith
+
+    steps_of_table : (x : TrainTable) → slice_get tables.trains t ≡ Some x → (line_of tables).steps t ≡ length x.rows
+    steps_of_table x e = ap (λ o. option_map_or (λ (y : TrainTable). length y.rows) o 0) e
 
 -- what is found is an item that passes, and one is found where one passes
 found_at : {A : Type 0} (p : A → Bool) (xs : List A) (x : A) → find p xs ≡ Some x → (i : ℕ) × (slice_get xs i ≡ Some x) × (p x ≡ true)
@@ -210,12 +245,25 @@ consistent_line tables line =
     record {
       rows = λ t k h. row_is tables t k line h;
       arms = λ t k b x h. has_arm (line_segment tables b x) (route_of tables t k) h;
+      first_arm = λ b x h. first_of (slice_get tables.boxes b) b x refl h;
       first = λ t b x. first_is (line_segment tables b x) t;
     }
   where
     has_arm : (o p : Option ℕ) → same_number o p ≡ true → is_some o ≡ true
     has_arm None p h = absurd (false≢true h)
     has_arm (Some n) p h = refl
+
+    mapped_there : (o : Option SegId) → is_some (option_map (λ (z : SegId). z.0) o) ≡ is_some o
+    mapped_there None = refl
+    mapped_there (Some z) = refl
+
+    first_of : (o : Option BoxTable) (b x : ℕ) → slice_get tables.boxes b ≡ o → is_some (option_and_then (λ (y : BoxTable). segment_number y x) o) ≡ true
+        → is_some (option_and_then (λ (y : BoxTable). segment_number y 0) (slice_get tables.boxes b)) ≡ true
+    first_of None b x e h = absurd (false≢true h)
+    first_of (Some y) b x e h =
+        let among = ltb-true x (arms_of y.kind) (sym ((line.boxes b y e).arms x) ∙ sym (mapped_there (segment_in y x)) ∙ h) in
+        ap (λ o. is_some (option_and_then (λ (y : BoxTable). segment_number y 0) o)) e ∙ mapped_there (segment_in y 0) ∙ (line.boxes b y e).arms 0
+        ∙ lt-ltb 0 (arms_of y.kind) (omega arith)
 
     first_is : (o : Option ℕ) (t : ℕ) → is_held_by t (option_and_then (starter_of tables) o) ≡ same_number o (route_of tables t 0)
     first_is None t = refl

@@ -1,4 +1,4 @@
--- All that the steps of a run weigh is at most what the attempts posted can weigh.
+-- All that the steps of a run weigh is at most what the attempts opened can weigh.
 use Rattle.std.proofs.Common.{◌≡◌, ℕ, zero, suc, ◌+◌, ◌-◌, ◌*◌, ◌<◌, ◌≤◌, cond, List, [], ◌∷◌, length, length-append, Option, Some, None, refl, ap, ◌∙◌, inl}
 use Rattle.std.proofs.Common.{inr, ◌⊎◌, ⊎_elim, arith}
 use Rattle.std.specs.Prelude.{option_to_list}
@@ -8,6 +8,7 @@ use Rattle.std.proofs.lemmas.Bool.Decides.{nat_tests}
 use Rattle.rl_base.specs.declared.ids.TrainId.{TrainId}
 use Rattle.rl_base.specs.declared.job.Verb.{Verb}
 use Rattle.rl_base.specs.declared.job.Verb.TheVariants as verbs
+use Rattle.rl_base.specs.declared.limits.TheConstants.{MAX_ATTEMPT_EVENTS, MAX_ATTEMPT_NODE_EVENTS, MAX_ATTEMPT_MOVES}
 use Rattle.rl_base.specs.declared.layout.NodeKind.{NodeKind}
 use Rattle.rl_base.specs.declared.layout.NodeKind.TheVariants.{Train, Track, Box, Machine}
 use Rattle.rl_model.specs.declared.moves.Move.{Move}
@@ -19,7 +20,7 @@ use Rattle.rl_protocol.specs.StepMoves.{move_of, refusal_of}
 use Rattle.rl_protocol.specs.Nodes.{node_of}
 use Rattle.rl_protocol.specs.Runs.{state_after, IsStepRun, moves_of}
 use Rattle.rl_protocol.specs.Agreement.{Agrees}
-use Rattle.rl_protocol.specs.Counts.{same_node, events_of, attempts_posted}
+use Rattle.rl_protocol.specs.Counts.{same_node, events_of, attempts_opened}
 use Rattle.rl_protocol.proofs.Known.{Known}
 use Rattle.rl_protocol.proofs.Jobs.{begins_passes}
 use Rattle.rl_protocol.proofs.Agreed.{agrees, known_of}
@@ -37,11 +38,11 @@ total w (step ∷ steps) = weight w step + total w steps
 
 -- what a train's steps weigh, with what its attempts left could weigh, is at most its rank and what all could weigh
 step_total : (full before left left2 rank1 rank2 tries d : ℕ) → before + full + full * left ≤ rank1 + full * tries
-    → ((left2 ≡ left) × (rank1 + d ≤ rank2)) ⊎ ((left ≡ left2 + 1) × (rank1 ≡ full) × (d ≤ rank2)) → (d + before) + full + full * left2 ≤ rank2 + full * tries
+    → ((left2 ≡ left) × (rank1 + d ≤ rank2)) ⊎ ((left ≡ left2 + 1) × (rank1 + d ≤ rank2 + full)) → (d + before) + full + full * left2 ≤ rank2 + full * tries
 step_total full before left left2 rank1 rank2 tries d h (inl e) = let same : full * left2 ≡ full * left = ap (λ z. full * z) e.0 in let more = e.1 in
     omega arith
 step_total full before left left2 rank1 rank2 tries d h (inr e) = let same : full * left ≡ full * left2 + full = ap (λ z. full * z) e.0 ∙ more full left2 in
-    let at_full = e.1 in let below = e.2 in omega arith
+    let weighs = e.1 in omega arith
   where
     more : (m n : ℕ) → m * (n + 1) ≡ m * n + m
     more m n = omega arith
@@ -58,7 +59,7 @@ weighed_is w line tries (step ∷ steps) t laws run =
     (weighed_is w line tries steps t laws run.0)
     (raised_or_opened w line s t step (old.passage t) run.1 (known_of line tries s step old run.1))
 
--- so it is at most what the attempts posted can weigh
+-- so it is at most what the attempts opened can weigh
 weighed_most : (full w left rank1 tries : ℕ) → w + full + full * left ≤ rank1 + full * tries → rank1 ≤ full → left ≤ tries → w ≤ full * (tries - left)
 weighed_most full w left rank1 tries h most within =
     let same : full * tries ≡ full * left + full * (tries - left) = ap (λ z. full * z) (split tries left within) ∙ distribute full left (tries - left) in
@@ -85,13 +86,13 @@ weighed_below w zero steps = 0
 weighed_below w (suc t) steps = weighed w t steps + weighed_below w t steps
 
 below_weigh : (w : Weights) (line : Line) (tries : ℕ) (steps : List Step) (n : ℕ) → IsConsistent line → IsStepRun line tries steps
-    → weighed_below w n steps ≤ attempt_weight w * attempts_posted tries (state_after line tries steps) n
+    → weighed_below w n steps ≤ attempt_weight w * attempts_opened tries (state_after line tries steps) n
 below_weigh w line tries steps zero laws run = omega arith
 below_weigh w line tries steps (suc t) laws run =
-    let posted = tries - ((state_after line tries steps).trains t).left in
-    let same : attempt_weight w * (posted + attempts_posted tries (state_after line tries steps) t) ≡ attempt_weight w * posted
-    + attempt_weight w * attempts_posted tries (state_after line tries steps) t =
-    distribute (attempt_weight w) posted (attempts_posted tries (state_after line tries steps) t) in
+    let opened = tries - ((state_after line tries steps).trains t).left in
+    let same : attempt_weight w * (opened + attempts_opened tries (state_after line tries steps) t) ≡ attempt_weight w * opened
+    + attempt_weight w * attempts_opened tries (state_after line tries steps) t =
+    distribute (attempt_weight w) opened (attempts_opened tries (state_after line tries steps) t) in
     omega (arith, train_weighs w line tries steps t laws run, below_weigh w line tries steps t laws run)
   where
     distribute : (m n k : ℕ) → m * (n + k) ≡ m * n + m * k
@@ -135,9 +136,9 @@ total_below w line tries (step ∷ steps) n laws others run =
     (cases_lt (about step) n) in
     omega (arith, here_most w n step inside, more_below w n step steps, total_below w line tries steps n laws others run.0)
 
--- so all steps weigh at most what the attempts posted can
+-- so all steps weigh at most what the attempts opened can
 pub total_most : (w : Weights) (line : Line) (tries : ℕ) (steps : List Step) (n : ℕ) → IsConsistent line → ((t : ℕ) → n ≤ t → line.steps t ≡ 0)
-    → IsStepRun line tries steps → total w steps ≤ attempt_weight w * attempts_posted tries (state_after line tries steps) n
+    → IsStepRun line tries steps → total w steps ≤ attempt_weight w * attempts_opened tries (state_after line tries steps) n
 total_most w line tries steps n laws others run = omega (arith, total_below w line tries steps n laws others run, below_weigh w line tries steps n laws run)
 
 -- every step, those of a kind of node, and those with a move
@@ -296,7 +297,7 @@ node_weighs (Track t) step = grind (arith, nat_tests)
 node_weighs (Box b) step = grind (arith, nat_tests)
 node_weighs (Machine b) step = grind (arith, nat_tests)
 
-node_most : (node : NodeKind) → attempt_weight (by_node node) ≤ 19
+node_most : (node : NodeKind) → attempt_weight (by_node node) ≤ MAX_ATTEMPT_NODE_EVENTS
 unfolding by_train by_track by_box by_machine
 node_most (Train t) = omega arith
 node_most (Track t) = omega arith
@@ -337,26 +338,26 @@ times : (m n p : ℕ) → m ≤ n → m * p ≤ n * p
 times m n p h = grind arith
 
 pub events_most : (line : Line) (tries : ℕ) (steps : List Step) (n : ℕ) → IsConsistent line → ((t : ℕ) → n ≤ t → line.steps t ≡ 0) → IsStepRun line tries steps
-    → length steps ≤ 39 * attempts_posted tries (state_after line tries steps) n
+    → length steps ≤ MAX_ATTEMPT_EVENTS * attempts_opened tries (state_after line tries steps) n
 unfolding each_step
 events_most line tries steps n laws others run = omega (arith, count_all steps, total_most each_step line tries steps n laws others run)
 
 pub node_events_most : (node : NodeKind) (line : Line) (tries : ℕ) (steps : List Step) (n : ℕ) → IsConsistent line → ((t : ℕ) → n ≤ t → line.steps t ≡ 0)
-    → IsStepRun line tries steps → events_of node steps ≤ 19 * attempts_posted tries (state_after line tries steps) n
+    → IsStepRun line tries steps → events_of node steps ≤ MAX_ATTEMPT_NODE_EVENTS * attempts_opened tries (state_after line tries steps) n
 node_events_most node line tries steps n laws others run =
     omega (
       arith,
       count_node node steps,
       total_most (by_node node) line tries steps n laws others run,
-      times (attempt_weight (by_node node)) 19
-          (attempts_posted tries (state_after line tries steps) n) (node_most node),
+      times (attempt_weight (by_node node)) MAX_ATTEMPT_NODE_EVENTS
+          (attempts_opened tries (state_after line tries steps) n) (node_most node),
     )
 
 pub moves_most : (line : Line) (tries : ℕ) (steps : List Step) (n : ℕ) → IsConsistent line → ((t : ℕ) → n ≤ t → line.steps t ≡ 0) → IsStepRun line tries steps
-    → length (moves_of line steps) ≤ 10 * attempts_posted tries (state_after line tries steps) n
+    → length (moves_of line steps) ≤ MAX_ATTEMPT_MOVES * attempts_opened tries (state_after line tries steps) n
 unfolding with_move
 moves_most line tries steps n laws others run = omega (arith, count_moves line steps, total_most with_move line tries steps n laws others run)
 
-pub posted_most : (tries : ℕ) (s : State) (n : ℕ) → attempts_posted tries s n ≤ n * tries
-posted_most tries s zero = omega arith
-posted_most tries s (suc t) = let before = posted_most tries s t in let more : suc t * tries ≡ t * tries + tries = omega arith in omega arith
+pub opened_most : (tries : ℕ) (s : State) (n : ℕ) → attempts_opened tries s n ≤ n * tries
+opened_most tries s zero = omega arith
+opened_most tries s (suc t) = let before = opened_most tries s t in let more : suc t * tries ≡ t * tries + tries = omega arith in omega arith

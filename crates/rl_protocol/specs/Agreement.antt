@@ -25,9 +25,9 @@ use Rattle.rl_track.specs.declared.track.TrackMind.{TrackMind}
 use Rattle.rl_track.specs.declared.track.TrackPhase.TheVariants.{Watch, HeadDue, LeaveDue, TailDue}
 use Rattle.rl_track.specs.Track.{track_at}
 use Rattle.rl_protocol.specs.Line.{Line, is_held_by}
-use Rattle.rl_train.specs.Jobs.{is_pass, is_near, has_passed, is_open}
+use Rattle.rl_train.specs.Jobs.{looks_ahead, is_pass, is_near, has_passed, is_open, names_next}
 use Rattle.rl_protocol.specs.State.{State}
-use Rattle.rl_protocol.specs.Minds.{train, letter_of, letter_of_path}
+use Rattle.rl_protocol.specs.Minds.{train, row_of, letter_of, letter_of_path}
 use Rattle.rl_protocol.specs.Held.{holds, has_lock}
 
 -- 1. Reservations. The reservation words say exactly what the trains hold, and arms that aren't there are free
@@ -172,11 +172,12 @@ abbrev pub open_attempts : TrainMind → ℕ
 open_attempts m = if is_open m.job m.waits then 1 else 0
 
 -- 6. Attempts. The attempts left, the steps made, the refusals met and the open attempt are as many as the train was
--- given, and the train is within its route
+-- given, the train is within its route, and a job about the segment after the next one is at a row that looks ahead
 pub record AgreesOnAttempts (line : Line) (tries : ℕ) (s : State) (t : ℕ) : Type 0 where
   pub total : (s.trains t).left + (s.trains t).step + (s.trains t).refused + open_attempts (s.trains t) ≡ tries
   pub within : (s.trains t).step ≤ line.steps t
   pub under_way : is_under_way (s.trains t) ≡ true → (s.trains t).step < line.steps t
+  pub ahead : names_next (s.trains t).job ≡ true → looks_ahead (row_of line t (s.trains t)) ≡ true
 
 -- the whole
 pub record Agrees (line : Line) (tries : ℕ) (s : State) : Type 0 where

@@ -1,4 +1,4 @@
--- Counts: the events of a node, and the attempts that trains have posted.
+-- Counts: the events of a node, and the attempts that trains have opened.
 use Rattle.std.specs.Prelude.{◌≡◌, ◌≤◌, ℕ, zero, suc, ◌+◌, ◌-◌, ◌==◌, Bool, false, List, count_by}
 use Rattle.rl_base.specs.declared.layout.NodeKind.{NodeKind}
 use Rattle.rl_base.specs.declared.layout.NodeKind.TheVariants.{Train, Track, Box, Machine}
@@ -22,7 +22,7 @@ same_node _ _ = false
 abbrev pub events_of : NodeKind → List Step → ℕ
 events_of node steps = count_by (λ step. same_node (node_of step) node) steps
 
--- how many attempts the trains below this number have posted
-abbrev pub attempts_posted : ℕ → State → ℕ → ℕ
-attempts_posted tries s zero = 0
-attempts_posted tries s (suc t) = (tries - (s.trains t).left) + attempts_posted tries s t
+-- how many attempts the trains below this number have opened
+abbrev pub attempts_opened : ℕ → State → ℕ → ℕ
+attempts_opened tries s zero = 0
+attempts_opened tries s (suc t) = (tries - (s.trains t).left) + attempts_opened tries s t

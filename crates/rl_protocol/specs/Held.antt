@@ -67,7 +67,9 @@ locked_with (Some l) b x y locked = locked_after l.verb (at l.to l.x b x && l.y.
 
 -- what a train with the mind holds of its job: at arm x of box b, and the lock of box b from arm x to arm y
 abbrev pub job_holds : Line → ℕ → TrainMind → (b x : ℕ) → Bool
-job_holds line t m b x = holds_at m.job (row_of line t m) (line.ends t m.step b x) (line.ends t (m.step + 1) b x) b x
+job_holds line t m b x =
+    holds_at m.job (row_of line t m) (line.ends t m.step b x) (line.ends t (m.step + 1) b x)
+    (line.ends t (m.step + 2) b x) b x
 
 abbrev pub job_locks : Line → ℕ → TrainMind → (b x y : ℕ) → Bool
 job_locks line t m b x y = locks_at m.job (row_of line t m) b x y

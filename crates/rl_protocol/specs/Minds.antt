@@ -1,7 +1,8 @@
 -- Minds in a step: the letter of a train and its mind after an answer, and a box that serves.
-use Rattle.std.specs.Prelude.{ℕ, ◌==◌, Bool, false, not, ◌&&◌, ◌||◌, Option, None}
+use Rattle.std.specs.Prelude.{ℕ, ◌+◌, ◌==◌, Bool, false, not, ◌&&◌, ◌||◌, Option, None}
 use Rattle.rl_base.specs.declared.ids.BoxId.{BoxId}
 use Rattle.rl_base.specs.declared.ids.TrainId.{TrainId}
+use Rattle.rl_base.specs.declared.job.Job.TheVariants.{Unlock}
 use Rattle.rl_base.specs.declared.job.Verb.TheVariants as verbs
 use Rattle.rl_words.specs.declared.lock.Path.{Path}
 use Rattle.rl_words.specs.declared.mail.Letter.{Letter}
@@ -12,7 +13,7 @@ use Rattle.rl_box.specs.declared.mind.BoxMind.{BoxMind}
 use Rattle.rl_box.specs.declared.mind.Work.TheVariants.{Serve}
 use Rattle.rl_box.specs.Mind.{box_at}
 use Rattle.rl_protocol.specs.Line.{Line}
-use Rattle.rl_train.specs.Jobs.{letter, after_yes, is_near}
+use Rattle.rl_train.specs.Jobs.{looks_ahead, letter, is_near}
 use Rattle.rl_train.specs.Steps as trains
 
 -- the train, and the box, of a number
@@ -37,13 +38,17 @@ letter_of line t m = letter (row_of line t m) m.job
 abbrev pub at_rest : Line → ℕ → TrainMind → Bool
 at_rest line t m = not m.waits && is_near m.job && (m.step == line.steps t || m.left == 0)
 
+-- the step after its own looks ahead
+abbrev pub looks_on : Line → ℕ → TrainMind → Bool
+looks_on line t m = looks_ahead (line.row t (m.step + 1))
+
 -- the mind after the answer Yes, at the row of its step
 abbrev pub heard : Line → ℕ → TrainMind → TrainMind
-heard line t m = trains.heard (row_of line t m) m
+heard line t m = trains.heard (row_of line t m) (looks_on line t m) m
 
 -- and after the passage
-abbrev pub passed : Line → ℕ → TrainMind → TrainMind
-passed line t m = record m { waits = false; job = after_yes (row_of line t m) m.job }
+abbrev pub passed : TrainMind → TrainMind
+passed m = record m { waits = false; job = Unlock }
 
 -- the arms that the letter names are arms of its box
 abbrev pub names_arms : Line → Letter → Bool

@@ -120,7 +120,7 @@ next line s (go t) =
     record s { trains = put s.trains t (record m { waits = true }); run = put s.run t (Go m.step) }
 next line s (quiet t) =
     let m = s.trains t in
-    record s { trains = put s.trains t (passed line t m); sense = put s.sense t (Quiet (m.step + 1)) }
+    record s { trains = put s.trains t (passed m); sense = put s.sense t (Quiet (m.step + 1)) }
 next line s (take b t l) = record s { boxes = with_work s b (Serve (train t) l); mail = put s.mail t (Taken l) }
 next line s (grant b t l) =
     record s { boxes = saying s b t l answers.Yes; resv = put_at s.resv b l.x.0 (Some (train t)) }

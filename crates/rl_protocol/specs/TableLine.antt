@@ -1,5 +1,5 @@
 -- The line that tables say.
-use Rattle.std.specs.Prelude.{ℕ, zero, suc, length, slice_get, Option, Some, is_some, option_map, option_and_then}
+use Rattle.std.specs.Prelude.{ℕ, zero, suc, length, slice_get, Option, Some, None, is_some, option_map, option_and_then}
 use Rattle.std.specs.Prelude.{unwrap_or}
 use Rattle.std.specs.Option.{option_map_or}
 use Rattle.rl_base.specs.declared.kind.Side.TheVariants.{Left}
@@ -25,7 +25,7 @@ route_of tables t k = option_and_then (λ (x : TrainTable). segment_of_route x k
 abbrev pub row_at : Tables → (t k : ℕ) → Option StepRow
 row_at tables t k = option_and_then (λ (x : TrainTable). slice_get x.rows k) (slice_get tables.trains t)
 
--- what stands for a row that isn't there
+-- what stands for a row that isn't there, which doesn't look ahead
 abbrev pub no_row : StepRow
 no_row =
     record {
@@ -38,6 +38,7 @@ no_row =
       c_arm = arm 0;
       a = switch_box 0;
       a_arm = arm 0;
+      next = None;
     }
 
 abbrev pub line_of : Tables → Line

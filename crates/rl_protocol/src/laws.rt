@@ -4,6 +4,7 @@ ghost use Rattle.rl_base.specs.declared.limits.TheConstants.{MAX_ATTEMPT_MOVES};
 ghost use Rattle.rl_base.specs.declared.layout.NodeKind.{NodeKind};
 ghost use Rattle.rl_base.specs.declared.layout.NodeKind.TheVariants as nodes;
 ghost use Rattle.rl_base.specs.declared.layout.WordKind.{WordKind};
+ghost use Rattle.rl_base.specs.declared.layout.WordKind.TheVariants as words;
 ghost use Rattle.rl_model.specs.declared.moves.Move.{Move};
 ghost use Rattle.rl_model.specs.declared.network.NetworkPlan.{NetworkPlan};
 ghost use Rattle.rl_model.specs.World as world;
@@ -14,12 +15,15 @@ ghost use Rattle.rl_model.specs.Network.{IsNetwork};
 ghost use Rattle.rl_tables.specs.declared.table.Tables.{Tables};
 ghost use Rattle.rl_tables.specs.Kept.{IsLine};
 ghost use Rattle.rl_tables.specs.Tables.{AreTablesOf};
+ghost use Rattle.rl_words.specs.declared.mail.Letter.{Letter};
+ghost use Rattle.rl_words.specs.declared.mail.MailWord.TheVariants.{Ask};
 ghost use Rattle.rl_words.specs.Word.{Word, kind_of};
 ghost use Rattle.rl_tables.specs.declared.table.BoxTable.{BoxTable};
 ghost use Rattle.rl_tables.specs.declared.table.TrainTable.{TrainTable};
 ghost use Rattle.rl_train.specs.declared.mind.TrainMind.{TrainMind};
 ghost use Rattle.rl_train.specs.Steps.{TrainStep};
 ghost use Rattle.rl_box.specs.declared.mind.BoxMind.{BoxMind};
+ghost use Rattle.rl_box.specs.declared.mind.Work.TheVariants.{Ready};
 ghost use Rattle.rl_box.specs.Steps.{BoxStep};
 ghost use Rattle.rl_track.specs.declared.track.TrackMind.{TrackMind};
 ghost use Rattle.rl_track.specs.Track.{TrackStep};
@@ -35,7 +39,7 @@ ghost use Rattle.rl_protocol.specs.StepMoves.{move_of};
 ghost use Rattle.rl_protocol.specs.Runs.{state_after, IsStepRun, moves_of};
 ghost use Rattle.rl_protocol.specs.Agreement.{Agrees};
 ghost use Rattle.rl_protocol.specs.Worlds.{IsRailway, world_at};
-ghost use Rattle.rl_protocol.specs.Counts.{HasTrains, events_of, attempts_posted};
+ghost use Rattle.rl_protocol.specs.Counts.{HasTrains, events_of, attempts_opened};
 ghost use Rattle.rl_protocol.specs.Refusals.{refusals_said};
 ghost use Rattle.rl_protocol.specs.AtWork.{HasStep, word_at_work};
 ghost use Rattle.rl_protocol.specs.Rest.{AllAtRest, HoldsSegmentsAlone};
@@ -88,12 +92,17 @@ pub fn counted_refusals()
 {}
 
 /// In every state of a run a box that serves a letter, or has an answer to say, has a step on the word at which it
-/// looks.
+/// looks, and a ready box has one on the mailbox in which it is asked.
 pub fn boxes_at_work()
-    ensures { (line : Line) (tries : ℕ) (steps : List Step) (b : ℕ) (word : WordKind)
+    ensures busy { (line : Line) (tries : ℕ) (steps : List Step) (b : ℕ) (word : WordKind)
         → IsConsistent line → IsStepRun line tries steps
         → word_at_work b ((state_after line tries steps).boxes b).work ≡ Some word
         → HasStep line (state_after line tries steps) (nodes.Box (box b)) word }
+    ensures asked { (line : Line) (tries : ℕ) (steps : List Step) (t : ℕ) (l : Letter)
+        → IsConsistent line → IsStepRun line tries steps
+        → (state_after line tries steps).mail t ≡ Ask l
+        → ((state_after line tries steps).boxes l.to.0).work ≡ Ready
+        → HasStep line (state_after line tries steps) (nodes.Box (box l.to.0)) (words.Mail (train t)) }
 {}
 
 /// Where every train rests, each holds its own segment at both ends and nothing else, no box has a lock, and no letter
@@ -110,20 +119,20 @@ pub fn trains_at_rest()
         → at_rest line t ((state_after line tries steps).trains t) ≡ true }
 {}
 
-/// In every run all steps together, those of each node, and the moves are at most so many for each attempt posted.
+/// In every run all steps together, those of each node, and the moves are at most so many for each attempt opened.
 pub fn counted_steps()
     ensures steps { (line : Line) (tries trains : ℕ) (steps : List Step)
         → IsConsistent line → HasTrains line trains → IsStepRun line tries steps
-        → length steps ≤ MAX_ATTEMPT_EVENTS * attempts_posted tries (state_after line tries steps) trains }
+        → length steps ≤ MAX_ATTEMPT_EVENTS * attempts_opened tries (state_after line tries steps) trains }
     ensures node { (line : Line) (tries trains : ℕ) (steps : List Step) (node : NodeKind)
         → IsConsistent line → HasTrains line trains → IsStepRun line tries steps
-        → events_of node steps ≤ MAX_ATTEMPT_NODE_EVENTS * attempts_posted tries (state_after line tries steps) trains }
+        → events_of node steps ≤ MAX_ATTEMPT_NODE_EVENTS * attempts_opened tries (state_after line tries steps) trains }
     ensures moves { (line : Line) (tries trains : ℕ) (steps : List Step)
         → IsConsistent line → HasTrains line trains → IsStepRun line tries steps
         → length (moves_of line steps)
-        ≤ MAX_ATTEMPT_MOVES * attempts_posted tries (state_after line tries steps) trains }
-    ensures posted { (line : Line) (tries trains : ℕ) (steps : List Step)
-        → attempts_posted tries (state_after line tries steps) trains ≤ trains * tries }
+        ≤ MAX_ATTEMPT_MOVES * attempts_opened tries (state_after line tries steps) trains }
+    ensures opened { (line : Line) (tries trains : ℕ) (steps : List Step)
+        → attempts_opened tries (state_after line tries steps) trains ≤ trains * tries }
 {}
 
 /// What the sentences of a node relate, seen in a state that agrees, is a step that fits it, and that leaves it with

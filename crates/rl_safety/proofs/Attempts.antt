@@ -4,6 +4,8 @@ use Rattle.std.proofs.lemmas.Bool.{cases_Bool, and_parts, not-true}
 use Rattle.rl_base.specs.declared.ids.TrainId.{TrainId}
 use Rattle.rl_base.specs.declared.job.Job.{Job}
 use Rattle.rl_base.specs.declared.job.Job.TheVariants as jobs
+use Rattle.rl_base.specs.declared.job.Verb.{Verb}
+use Rattle.rl_base.specs.declared.job.Verb.TheVariants as verbs
 use Rattle.rl_tables.specs.declared.table.StepRow.{StepRow}
 use Rattle.rl_words.specs.declared.mail.Letter.{Letter}
 use Rattle.rl_words.specs.declared.mail.MailWord.{MailWord}
@@ -17,6 +19,7 @@ use Rattle.rl_protocol.specs.Refusals.{is_no, refusals_said}
 use Rattle.rl_protocol.specs.State.{State}
 use Rattle.rl_protocol.specs.Worlds.{steps_made}
 use Rattle.rl_protocol.proofs.Jobs.{letter_there, open_begun}
+use Rattle.rl_protocol.proofs.Letters.{next_verb}
 use Rattle.rl_protocol.proofs.Resting.{rest_mail, rest_run}
 
 -- a train that has left its segment has its attempt open, and so has one that passes its box
@@ -24,11 +27,15 @@ passed_open : (job : Job) (waits : Bool) → has_passed job ≡ true → is_open
 unfolding has_passed is_open
 passed_open jobs.Near waits h = cc
 passed_open jobs.Far waits h = refl
+passed_open jobs.Near2 waits h = refl
+passed_open jobs.Far2 waits h = refl
 passed_open jobs.Lock waits h = refl
 passed_open jobs.Pass waits h = refl
 passed_open jobs.Unlock waits h = refl
 passed_open jobs.FreeNear waits h = refl
 passed_open jobs.FreeFar waits h = refl
+passed_open jobs.DropFar2 waits h = cc
+passed_open jobs.DropNear2 waits h = cc
 passed_open jobs.DropFar waits h = cc
 passed_open jobs.DropNear waits h = cc
 
@@ -36,11 +43,15 @@ passing_open : (job : Job) (waits : Bool) → is_pass job ≡ true → is_open j
 unfolding is_pass is_open
 passing_open jobs.Near waits h = cc
 passing_open jobs.Far waits h = refl
+passing_open jobs.Near2 waits h = refl
+passing_open jobs.Far2 waits h = refl
 passing_open jobs.Lock waits h = refl
 passing_open jobs.Pass waits h = refl
 passing_open jobs.Unlock waits h = refl
 passing_open jobs.FreeNear waits h = refl
 passing_open jobs.FreeFar waits h = refl
+passing_open jobs.DropFar2 waits h = cc
+passing_open jobs.DropNear2 waits h = cc
 passing_open jobs.DropFar waits h = cc
 passing_open jobs.DropNear waits h = cc
 
@@ -50,11 +61,15 @@ refusable_open : (job : Job) (row : StepRow) (l : Letter) → letter row job ≡
 unfolding letter is_open has_passed
 refusable_open jobs.Near row l h may = (refl, refl)
 refusable_open jobs.Far row l h may = (refl, refl)
+refusable_open jobs.Near2 row l h may = (refl, refl)
+refusable_open jobs.Far2 row l h may = (refl, refl)
 refusable_open jobs.Lock row l h may = (refl, refl)
 refusable_open jobs.Pass row l h may = cc
 refusable_open jobs.Unlock row l h may = grind arith
 refusable_open jobs.FreeNear row l h may = grind arith
 refusable_open jobs.FreeFar row l h may = grind arith
+refusable_open jobs.DropFar2 row l h may = absurd (subst (λ (v : Verb). IsRefusable v) (next_verb row.next _ verbs.Release l (λ n. refl) h) may)
+refusable_open jobs.DropNear2 row l h may = absurd (subst (λ (v : Verb). IsRefusable v) (next_verb row.next _ verbs.Release l (λ n. refl) h) may)
 refusable_open jobs.DropFar row l h may = grind arith
 refusable_open jobs.DropNear row l h may = grind arith
 
@@ -103,7 +118,7 @@ module _ (line : Line) (tries : ℕ) (s : State) (agrees : Agrees line tries s) 
       let m = s.trains t in
       let parts = and_parts m.waits (not (is_pass m.job)) asking in
       let stays : is_pass m.job ≡ false = not-true (is_pass m.job) parts.1 in
-      let letter = letter_there m.job (row_of line t m) stays in
+      let letter = letter_there m.job (row_of line t m) (agrees.attempts t).ahead stays in
       let carried : Carries (No k u) letter.0 = subst (λ v. Carries v letter.0) is (agrees.mailboxes.letter t letter.0 parts.0 letter.1) in
       let may : IsRefusable letter.0.verb = subst (λ l. IsRefusable l.verb) carried.0 carried.1 in
       let found = refusable_open m.job (row_of line t m) letter.0 letter.1 may in

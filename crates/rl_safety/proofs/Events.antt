@@ -63,6 +63,7 @@ use Rattle.rl_safety.proofs.BoxLabels.{IsBoxHere, box_label, machine_label}
 use Rattle.rl_safety.proofs.Effects.{state_after}
 use Rattle.rl_safety.proofs.Minds.{IsBy}
 use Rattle.rl_safety.proofs.Payloads.{payload_of_stamped}
+use Rattle.rl_protocol.proofs.Labels.{looks_on_is}
 use Rattle.rl_safety.proofs.TrainLabels.{IsTrainHere, train_label, track_label}
 use Rattle.rl_safety.proofs.Words.{IsOn}
 
@@ -213,6 +214,7 @@ train_event laws words tables tries c t m kind payload made line there mind soun
       mind = ap (read tables tries c).trains number ∙ train_here tables tries c t m there mind;
       steps = steps_there tables x.number.0 x there_at;
       row = λ row row_is. row_there tables x.number.0 m.step x row there_at row_is;
+      on = looks_on_is tables x.number.0 x m there_at;
     } in
     let label = train_label tables (read tables tries c) x m stepped.0.1 kept.seen kept.left here says kept.step in
     let mine : IsMindOf tables (nodes.Train t) (Train stepped.0.1) =

@@ -2,7 +2,7 @@
 use Rattle.std.proofs.Common.{◌≡◌, ℕ, ◌==◌, Bool, true, false, not, ◌&&◌, ◌||◌, length, Some, refl}
 use Rattle.rl_base.specs.declared.ids.TrainId.{TrainId}
 use Rattle.rl_base.specs.declared.job.Job.{Job}
-use Rattle.rl_base.specs.declared.job.Job.TheVariants.{Pass, Unlock}
+use Rattle.rl_base.specs.declared.job.Job.TheVariants.{Pass}
 use Rattle.rl_base.specs.declared.layout.NodeKind.TheVariants as nodes
 use Rattle.rl_words.specs.declared.mail.Letter.{Letter}
 use Rattle.rl_words.specs.declared.run.RunWord.TheVariants.{Go, Across}
@@ -11,7 +11,7 @@ use Rattle.rl_tables.specs.declared.table.StepRow.{StepRow}
 use Rattle.rl_tables.specs.declared.table.TrainTable.{TrainTable}
 use Rattle.rl_tables.specs.declared.table.Tables.{Tables}
 use Rattle.rl_train.specs.declared.mind.TrainMind.{TrainMind}
-use Rattle.rl_train.specs.Mind.{row_of, at_rest}
+use Rattle.rl_train.specs.Mind.{row_of, looks_on, at_rest}
 use Rattle.rl_train.specs.Steps as trains
 use Rattle.rl_train.specs.Steps.{TrainStep}
 use Rattle.rl_train.specs.Steps.TrainStep.{post, hear_yes, hear_no, go, quiet}
@@ -20,7 +20,7 @@ use Rattle.rl_track.specs.declared.track.TrackPhase.TheVariants.{Watch, LeaveDue
 use Rattle.rl_track.specs.Track.{TrackStep, track_at}
 use Rattle.rl_track.specs.Track.TrackStep.{enter, head, leave, tail}
 use Rattle.rl_steps.specs.declared.mind.Mind.TheVariants.{Train, Track}
-use Rattle.rl_train.specs.Jobs.{letter, after_yes, after_no, is_pass, is_near}
+use Rattle.rl_train.specs.Jobs.{letter, after_no, is_pass, is_near}
 use Rattle.rl_protocol.specs.Minds as minds
 use Rattle.rl_protocol.specs.State.{State}
 use Rattle.rl_protocol.specs.Steps.Step.{post as post_label, hear_yes as hear_yes_label, hear_no as hear_no_label, go as go_label, quiet as quiet_label}
@@ -34,6 +34,7 @@ pub record IsTrainHere (tables : Tables) (s : State) (x : TrainTable) (m : Train
   pub mind : s.trains x.number.0 ≡ m
   pub steps : (line_of tables).steps x.number.0 ≡ length x.rows
   pub row : (row : StepRow) → row_of x m ≡ Some row → (line_of tables).row x.number.0 m.step ≡ row
+  pub on : minds.looks_on (line_of tables) x.number.0 m ≡ looks_on x m
 
 swapped : (a b c : Bool) → (a && (b && c)) ≡ false → (b && a && c) ≡ false
 swapped true true c e = e
@@ -50,8 +51,8 @@ letter_is : (tables : Tables) (s : State) (x : TrainTable) (m : TrainMind) (row 
 letter_is tables s x m row l here is_row is_letter = rw (here.row row is_row) is_letter
 
 heard_is : (tables : Tables) (s : State) (x : TrainTable) (m : TrainMind) (row : StepRow) → IsTrainHere tables s x m → row_of x m ≡ Some row
-    → minds.heard (line_of tables) x.number.0 m ≡ trains.heard row m
-heard_is tables s x m row here is_row = rw (here.row row is_row) refl
+    → minds.heard (line_of tables) x.number.0 m ≡ trains.heard row (looks_on x m) m
+heard_is tables s x m row here is_row = rw (here.row row is_row, here.on) refl
 
 after_no_is : (tables : Tables) (s : State) (x : TrainTable) (m : TrainMind) (row : StepRow) (job : Job) → IsTrainHere tables s x m
     → row_of x m ≡ Some row → after_no row m.job ≡ Some job → after_no (minds.row_of (line_of tables) x.number.0 m) m.job ≡ Some job
@@ -60,10 +61,6 @@ after_no_is tables s x m row job here is_row is_job = rw (here.row row is_row) i
 passes_is : (m : TrainMind) → m.job ≡ Pass → is_pass m.job ≡ true
 unfolding is_pass
 passes_is m is = rw is refl
-
-passed_is : (tables : Tables) (t : ℕ) (m : TrainMind) → m.job ≡ Pass → minds.passed (line_of tables) t m ≡ record m { waits = false; job = Unlock }
-unfolding after_yes
-passed_is tables t m is = rw is refl
 
 pub train_label : (tables : Tables) (s : State) (x : TrainTable) (m after : TrainMind) (seen left : Word) → IsTrainHere tables s x m → StateSays s seen
     → TrainStep x m seen left after → IsLabel tables s (nodes.Train x.number) (Train after) seen left
@@ -109,7 +106,7 @@ train_label tables s x m after seen left here says (quiet is_pass waits) =
     record {
       step = quiet_label x.number.0;
       fits = (rw here.mind waits, rw here.mind (passes_is m is_pass), rw here.mind says);
-      leaves = rw (here.mind, passed_is tables x.number.0 m is_pass) refl;
+      leaves = rw here.mind refl;
       moves = refl;
       by = refl;
     }

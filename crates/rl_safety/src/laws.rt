@@ -113,7 +113,7 @@ pub fn trains_at_rest()
     protocol::trains_at_rest();
 }
 
-/// In every run all events together, those of each node, and the moves are at most so many for each attempt posted.
+/// In every run all events together, those of each node, and the moves are at most so many for each attempt opened.
 pub fn counted_events()
     ensures events { (tables : Tables) (tries : ℕ) (events : List Event)
         → IsLine tables → AreFewTries tries → IsRun tables tries events
@@ -124,7 +124,7 @@ pub fn counted_events()
     ensures moves { (tables : Tables) (tries : ℕ) (events : List Event)
         → IsLine tables → AreFewTries tries → IsRun tables tries events
         → length (moves_of tables events) ≤ MAX_ATTEMPT_MOVES * attempts_of tables tries events }
-    ensures posted { (tables : Tables) (tries : ℕ) (events : List Event)
+    ensures opened { (tables : Tables) (tries : ℕ) (events : List Event)
         → attempts_of tables tries events ≤ length tables.trains * tries }
 {
     steps_of_events();

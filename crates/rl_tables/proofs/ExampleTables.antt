@@ -53,6 +53,7 @@ is_step =
       y = refl;
       far = record { apart = λ e. omega arith; there = refl };
       back = record { apart = λ e. omega arith; there = refl };
+      next = λ b2 s3 after. absurd (let to = after.to in cc);
     }
 
 pub example_tables : AreTablesOf (network_of one_train) one_train_tables

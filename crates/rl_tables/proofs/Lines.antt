@@ -4,24 +4,28 @@ use Rattle.std.specs.Prelude.{is_some, option_map, nat_lt}
 use Rattle.std.specs.Option.{option_map_or}
 use Rattle.std.proofs.lemmas.Bool.{le-ltb, lt-ltb}
 use Rattle.std.proofs.lemmas.Bool.Decides.{nat_tests}
-use Rattle.std.proofs.lemmas.Option.{same_Some, slice_get_within}
+use Rattle.std.proofs.lemmas.Option.{same_Some, option_and_then_some, slice_get_within}
+use Rattle.rl_base.specs.declared.ids.BoxId.{BoxId}
 use Rattle.rl_base.specs.declared.ids.SegId.{SegId}
 use Rattle.rl_base.specs.declared.kind.Kind.{Kind}
 use Rattle.rl_base.specs.declared.kind.Kind.TheVariants.{Buffer}
 use Rattle.rl_base.specs.declared.kind.Side.TheVariants.{Left}
 use Rattle.rl_base.specs.Kind.{arms_of}
 use Rattle.rl_model.specs.declared.network.SwitchBox.{SwitchBox}
+use Rattle.rl_model.specs.declared.network.Train.{Train}
 use Rattle.rl_model.specs.declared.network.NetworkPlan.{NetworkPlan}
 use Rattle.rl_model.specs.Network as net
-use Rattle.rl_model.specs.Network.{IsNetwork, route_segment, steps_of, arm_of, start_side}
+use Rattle.rl_model.specs.Network.{IsNetwork, route_segment, route_box, steps_of, arm_of, start_side}
 use Rattle.rl_tables.specs.declared.table.BoxTable.{BoxTable}
+use Rattle.rl_tables.specs.declared.table.NextRow.{NextRow}
 use Rattle.rl_tables.specs.declared.table.StepRow.{StepRow}
 use Rattle.rl_tables.specs.declared.table.TrainTable.{TrainTable}
 use Rattle.rl_tables.specs.declared.table.Tables.{Tables}
-use Rattle.rl_tables.specs.Tables.{segment_in, IsBoxTable, IsStepRow, IsTrainTable, AreTablesOf}
-use Rattle.rl_tables.specs.Kept.{line_kind, line_segment, can_join, IsArm, IsOnlyAt, HasEnds, IsBox, IsRow, IsTrain, IsLine}
+use Rattle.rl_tables.specs.Tables.{segment_in, IsListOf, IsBoxTable, IsNextRow, LooksAheadTo, IsStepRow, IsTrainTable, AreTablesOf}
+use Rattle.rl_tables.specs.Kept.{line_kind, line_segment, can_join, IsArm, IsOnlyAt, HasEnds, IsBox, IsRow, next_in, IsAhead, IsTrain, IsLine}
 use Rattle.rl_tables.proofs.ListsOf.{there}
 use Rattle.rl_tables.proofs.Ends.{end_of, are_ends, only_two}
+use Rattle.rl_tables.proofs.Only.{same_next_row}
 use Rattle.rl_tables.proofs.Rows.{few_steps, connected, arms_joined, arms_apart}
 
 -- a list has an item at each place below its length
@@ -132,6 +136,30 @@ is_row n tables t k row network are within is =
       back_only = only_at n tables row.s.0 row.b.0 row.x.0 row.a.0 row.a_arm.0 network are is.x is.back.there is.back.apart;
     }
 
+-- a box of the route belongs to one of its steps
+step_there : (n : NetworkPlan) (t k b : ℕ) → route_box n t k ≡ Some b → k < steps_of n t
+step_there n t k b h =
+    option_and_then_some (λ (r : Train). option_map (λ (c : BoxId). c.0) (slice_get r.boxes k)) (slice_get n.trains t) b h
+    (λ r found at. rw found (within r.boxes (slice_get r.boxes k) refl at))
+  where
+    within : (boxes : List BoxId) (o : Option BoxId) → slice_get boxes k ≡ o → option_map (λ (c : BoxId). c.0) o ≡ Some b → k < length boxes
+    within boxes None is e = absurd (cc)
+    within boxes (Some c) is e = slice_get_within boxes k c is
+
+-- what a step looks ahead to is in the row after it
+is_ahead : (n : NetworkPlan) (t k : ℕ) (rows : List StepRow) (row : StepRow) (m : NextRow) → IsListOf (steps_of n t) (IsStepRow n t) rows
+    → IsNextRow n t k row.s.0 row.s2.0 m → IsAhead rows k row m
+is_ahead n t k rows row m are ahead =
+    let count = are.length_is in
+    let below = step_there n t (k + 1) m.b2.0 ahead.step.through in
+    let found = there rows (k + 1) (omega arith) in
+    let after = found.0 in
+    let is = are.each (k + 1) after found.1 in
+    let apart : after.s2.0 ≢ row.s.0 = λ e. ahead.apart (same_Some m.s3.0 after.s2.0 (sym ahead.step.to ∙ is.step.to) ∙ e) in
+    let seen : IsNextRow n t k row.s.0 row.s2.0 (next_in after) =
+    record { step = record { from = ahead.step.from; through = is.step.through; to = is.step.to }; apart = apart; near = is.y; far = is.far } in
+    record { after = after; there = found.1; next_is = same_next_row n t k row.s.0 row.s2.0 m (next_in after) ahead seen; apart = apart }
+
 is_train : (n : NetworkPlan) (tables : Tables) (t : ℕ) (x : TrainTable) → IsNetwork n → AreTablesOf n tables → t < length n.trains → IsTrainTable n t x
     → IsTrain tables t x
 is_train n tables t x network are within is =
@@ -144,6 +172,7 @@ is_train n tables t x network are within is =
           has_ends n tables x.first.0 network are ((network.trains t found.0 found.1).segments 0 x.first.0 is.first);
       first = λ row at. same_Some row.s.0 x.first.0 (sym (is.rows.each 0 row at).step.from ∙ is.first);
       chained = λ k row next at after. same_Some next.s.0 row.s2.0 (sym (is.rows.each (k + 1) next after).step.from ∙ (is.rows.each k row at).step.to);
+      next = λ k row m at looks. is_ahead n t k x.rows row m is.rows (subst (LooksAheadTo n t k row.s.0 row.s2.0) looks (is.rows.each k row at).next);
     }
 
 pub is_line : (n : NetworkPlan) (tables : Tables) → IsNetwork n → AreTablesOf n tables → IsLine tables

@@ -10,10 +10,11 @@ use Rattle.rl_model.specs.declared.network.Segment.{Segment}
 use Rattle.rl_model.specs.declared.network.NetworkPlan.{NetworkPlan}
 use Rattle.rl_model.specs.Network.{arm_at, arm_of, steps_of}
 use Rattle.rl_tables.specs.declared.table.BoxTable.{BoxTable}
+use Rattle.rl_tables.specs.declared.table.NextRow.{NextRow}
 use Rattle.rl_tables.specs.declared.table.StepRow.{StepRow}
 use Rattle.rl_tables.specs.declared.table.TrainTable.{TrainTable}
 use Rattle.rl_tables.specs.declared.table.Tables.{Tables}
-use Rattle.rl_tables.specs.Tables.{IsListOf, IsBoxTable, IsOtherEnd, IsStepRow, IsTrainTable, AreTablesOf}
+use Rattle.rl_tables.specs.Tables.{IsListOf, IsBoxTable, IsOtherEnd, IsNextRow, LooksAheadTo, IsStepRow, IsTrainTable, AreTablesOf}
 
 -- two lists that are as long, with items that belong at their places, where one thing at most belongs at each
 same_items : {A : Type 0} (P : ℕ → A → Type 0) (xs ys : List A) → length xs ≡ length ys → ((k : ℕ) (x : A) → slice_get xs k ≡ Some x → P k x)
@@ -34,8 +35,12 @@ same_list n P xs ys is_x is_y one = same_items P xs ys (is_x.length_is ∙ sym i
 abbrev seg : ℕ → SegId
 seg n = record { 0 = n }
 
-abbrev row_of : (s s2 b x y c c_arm a a_arm : ℕ) → StepRow
-row_of s s2 b x y c c_arm a a_arm =
+abbrev next_of : (s3 b2 b2_arm c2 c2_arm : ℕ) → NextRow
+next_of s3 b2 b2_arm c2 c2_arm =
+    record { s3 = record { 0 = s3 }; b2 = record { 0 = b2 }; b2_arm = record { 0 = b2_arm }; c2 = record { 0 = c2 }; c2_arm = record { 0 = c2_arm } }
+
+abbrev row_of : (s s2 b x y c c_arm a a_arm : ℕ) → Option NextRow → StepRow
+row_of s s2 b x y c c_arm a a_arm next =
     record {
       s = record { 0 = s };
       s2 = record { 0 = s2 };
@@ -46,6 +51,7 @@ row_of s s2 b x y c c_arm a a_arm =
       c_arm = record { 0 = c_arm };
       a = record { 0 = a };
       a_arm = record { 0 = a_arm };
+      next = next;
     }
 
 abbrev box_of : ℕ → Kind → Side → (seg0 seg1 seg2 seg3 : Option SegId) → BoxTable
@@ -86,6 +92,26 @@ other_end net s b x c y d z at_b is_c is_d =
     (λ g found at. third_end g b c d x y z at (rw found at is_c.there) (rw found at is_d.there) is_c.apart is_d.apart) in
     (same, same_Some y z (sym is_c.there ∙ ap (arm_of net s) same ∙ is_d.there))
 
+pub same_next_row : (net : NetworkPlan) (t k s s2 : ℕ) (n m : NextRow) → IsNextRow net t k s s2 n → IsNextRow net t k s s2 m → n ≡ m
+same_next_row net t k s s2 n m is is2 =
+    let s3 : n.s3.0 ≡ m.s3.0 = same_Some n.s3.0 m.s3.0 (sym is.step.to ∙ is2.step.to) in
+    let b2 : n.b2.0 ≡ m.b2.0 = same_Some n.b2.0 m.b2.0 (sym is.step.through ∙ is2.step.through) in
+    let b2_arm : n.b2_arm.0 ≡ m.b2_arm.0 =
+    same_Some n.b2_arm.0 m.b2_arm.0 (sym is.near ∙ ap (λ g. arm_of net g n.b2.0) s3 ∙ ap (arm_of net m.s3.0) b2 ∙ is2.near) in
+    let far2 : IsOtherEnd net n.s3.0 n.b2.0 m.c2.0 m.c2_arm.0 =
+    subst (λ g. IsOtherEnd net g n.b2.0 m.c2.0 m.c2_arm.0) (sym s3) (subst (λ b. IsOtherEnd net m.s3.0 b m.c2.0 m.c2_arm.0) (sym b2) is2.far) in
+    let far = other_end net n.s3.0 n.b2.0 n.b2_arm.0 n.c2.0 n.c2_arm.0 m.c2.0 m.c2_arm.0 is.near is.far far2 in
+    let c2 : n.c2.0 ≡ m.c2.0 = far.0 in
+    let c2_arm : n.c2_arm.0 ≡ m.c2_arm.0 = far.1 in
+    let whole : next_of n.s3.0 n.b2.0 n.b2_arm.0 n.c2.0 n.c2_arm.0 ≡ next_of m.s3.0 m.b2.0 m.b2_arm.0 m.c2.0 m.c2_arm.0 = cc in
+    whole
+
+same_next : (net : NetworkPlan) (t k s s2 : ℕ) (o p : Option NextRow) → LooksAheadTo net t k s s2 o → LooksAheadTo net t k s s2 p → o ≡ p
+same_next net t k s s2 None None is is2 = refl
+same_next net t k s s2 None (Some m) is is2 = absurd (is2.apart (is m.b2.0 m.s3.0 is2.step))
+same_next net t k s s2 (Some n) None is is2 = absurd (is.apart (is2 n.b2.0 n.s3.0 is.step))
+same_next net t k s s2 (Some n) (Some m) is is2 = ap Some (same_next_row net t k s s2 n m is is2)
+
 same_row : (net : NetworkPlan) (t k : ℕ) (row row2 : StepRow) → IsStepRow net t k row → IsStepRow net t k row2 → row ≡ row2
 same_row net t k row row2 is is2 =
     let s : row.s.0 ≡ row2.s.0 = same_Some row.s.0 row2.s.0 (sym is.step.from ∙ is2.step.from) in
@@ -103,8 +129,11 @@ same_row net t k row row2 is is2 =
     let c_arm : row.c_arm.0 ≡ row2.c_arm.0 = far.1 in
     let a : row.a.0 ≡ row2.a.0 = back.0 in
     let a_arm : row.a_arm.0 ≡ row2.a_arm.0 = back.1 in
-    let whole : row_of row.s.0 row.s2.0 row.b.0 row.x.0 row.y.0 row.c.0 row.c_arm.0 row.a.0 row.a_arm.0
-    ≡ row_of row2.s.0 row2.s2.0 row2.b.0 row2.x.0 row2.y.0 row2.c.0 row2.c_arm.0 row2.a.0 row2.a_arm.0 = cc in
+    let next2 : LooksAheadTo net t k row.s.0 row.s2.0 row2.next =
+    subst (λ g. LooksAheadTo net t k g row.s2.0 row2.next) (sym s) (subst (λ g. LooksAheadTo net t k row2.s.0 g row2.next) (sym s2) is2.next) in
+    let next : row.next ≡ row2.next = same_next net t k row.s.0 row.s2.0 row.next row2.next is.next next2 in
+    let whole : row_of row.s.0 row.s2.0 row.b.0 row.x.0 row.y.0 row.c.0 row.c_arm.0 row.a.0 row.a_arm.0 row.next
+    ≡ row_of row2.s.0 row2.s2.0 row2.b.0 row2.x.0 row2.y.0 row2.c.0 row2.c_arm.0 row2.a.0 row2.a_arm.0 row2.next = cc in
     whole
 
 same_train : (net : NetworkPlan) (t : ℕ) (x y : TrainTable) → IsTrainTable net t x → IsTrainTable net t y → x ≡ y

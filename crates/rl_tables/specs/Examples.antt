@@ -29,7 +29,7 @@ joint = box 1 Joint Left (Some (seg 0)) (Some (seg 1)) None None
 abbrev pub east : BoxTable
 east = box 2 Buffer Left (Some (seg 1)) None None None
 
--- the step from A through J1 to B; the other end of B is arm 0 of E, and that of A is arm 0 of W
+-- the step from A through J1 to B; the other end of B is arm 0 of E, and that of A is arm 0 of W. No step comes after it
 abbrev pub only_step : StepRow
 only_step =
     record {
@@ -42,6 +42,7 @@ only_step =
       c_arm = arm 0;
       a = switch_box 0;
       a_arm = arm 0;
+      next = None;
     }
 
 abbrev pub only_train : TrainTable

@@ -1,6 +1,6 @@
 -- What every line keeps, whatever its network: sizes within the limits, and rows that make sense in the tables of the
 -- boxes.
-use Rattle.std.specs.Prelude.{◌≡◌, ℕ, ◌+◌, ◌<◌, ◌≤◌, ◌≢◌, ◌⊎◌, nat_lt, Bool, true, ◌||◌, length, slice_get, Option, Some, is_some, option_and_then}
+use Rattle.std.specs.Prelude.{◌≡◌, ℕ, ◌+◌, ◌<◌, ◌≤◌, ◌≢◌, ◌⊎◌, nat_lt, Bool, true, ◌||◌, List, length, slice_get, Option, Some, is_some, option_and_then}
 use Rattle.std.specs.Option.{option_map_or}
 use Rattle.rl_base.specs.declared.kind.Kind.{Kind}
 use Rattle.rl_base.specs.declared.kind.Kind.TheVariants.{Buffer, Point}
@@ -8,6 +8,7 @@ use Rattle.rl_base.specs.declared.kind.Side.TheVariants.{Left, Right}
 use Rattle.rl_base.specs.declared.limits.TheConstants.{MAX_BOXES, MAX_TRAINS, MAX_STEPS}
 use Rattle.rl_base.specs.Kind.{arms_of, arms_join}
 use Rattle.rl_tables.specs.declared.table.BoxTable.{BoxTable}
+use Rattle.rl_tables.specs.declared.table.NextRow.{NextRow}
 use Rattle.rl_tables.specs.declared.table.StepRow.{StepRow}
 use Rattle.rl_tables.specs.declared.table.TrainTable.{TrainTable}
 use Rattle.rl_tables.specs.declared.table.Tables.{Tables}
@@ -67,8 +68,20 @@ pub record IsRow (tables : Tables) (row : StepRow) : Type 0 where
   pub back_apart : row.a.0 ≢ row.b.0
   pub back_only : IsOnlyAt tables row.s.0 row.b.0 row.x.0 row.a.0 row.a_arm.0
 
+-- the segment to which a row goes, with its two ends, as the row before it sees it
+abbrev pub next_in : StepRow → NextRow
+next_in row = record { s3 = row.s2; b2 = row.b; b2_arm = row.y; c2 = row.c; c2_arm = row.c_arm }
+
+-- the row at place k of the rows looks ahead to the segment to which the row after it goes, which isn't its own
+pub record IsAhead (rows : List StepRow) (k : ℕ) (row : StepRow) (n : NextRow) : Type 0 where
+  pub after : StepRow
+  pub there : slice_get rows (k + 1) ≡ Some after
+  pub next_is : n ≡ next_in after
+  pub apart : after.s2.0 ≢ row.s.0
+
 -- a train has no more steps than a route may have, the first from its first segment, and each next from where the one
--- before ends. Its first segment has two ends, also where it makes no step
+-- before ends. Its first segment has two ends, also where it makes no step. What a row looks ahead to is in the row after
+-- it
 pub record IsTrain (tables : Tables) (t : ℕ) (x : TrainTable) : Type 0 where
   pub number : x.number.0 ≡ t
   pub short : length x.rows ≤ MAX_STEPS
@@ -77,6 +90,8 @@ pub record IsTrain (tables : Tables) (t : ℕ) (x : TrainTable) : Type 0 where
   pub first : (row : StepRow) → slice_get x.rows 0 ≡ Some row → row.s.0 ≡ x.first.0
   pub chained : (k : ℕ) (row next : StepRow) → slice_get x.rows k ≡ Some row → slice_get x.rows (k + 1) ≡ Some next
       → next.s.0 ≡ row.s2.0
+  pub next : (k : ℕ) (row : StepRow) (n : NextRow) → slice_get x.rows k ≡ Some row → row.next ≡ Some n
+      → IsAhead x.rows k row n
 
 -- no more boxes and trains than a network may have, each right in itself, and no two trains start on one segment
 pub record IsLine (tables : Tables) : Type 0 where

@@ -4,6 +4,7 @@ use Rattle.rl_base.specs.declared.ids.SegId.{SegId}
 use Rattle.rl_model.specs.declared.network.NetworkPlan.{NetworkPlan}
 use Rattle.rl_model.specs.Network.{kind_of, start_side, segment_at, arm_of, steps_of, StartsOn, IsStep}
 use Rattle.rl_tables.specs.declared.table.BoxTable.{BoxTable}
+use Rattle.rl_tables.specs.declared.table.NextRow.{NextRow}
 use Rattle.rl_tables.specs.declared.table.StepRow.{StepRow}
 use Rattle.rl_tables.specs.declared.table.TrainTable.{TrainTable}
 use Rattle.rl_tables.specs.declared.table.Tables.{Tables}
@@ -37,14 +38,28 @@ pub record IsOtherEnd (net : NetworkPlan) (s b far arm : ℕ) : Type 0 where
   pub apart : far ≢ b
   pub there : arm_of net s far ≡ Some arm
 
+-- step k of train t goes from s to s2, and the step after it through b2 to s3, which isn't s; b2_arm is the arm of s3 at
+-- b2, and c2 and c2_arm are the other end of s3
+pub record IsNextRow (net : NetworkPlan) (t k s s2 : ℕ) (n : NextRow) : Type 0 where
+  pub step : IsStep net t (k + 1) s2 n.b2.0 n.s3.0
+  pub apart : n.s3.0 ≢ s
+  pub near : arm_of net n.s3.0 n.b2.0 ≡ Some n.b2_arm.0
+  pub far : IsOtherEnd net n.s3.0 n.b2.0 n.c2.0 n.c2_arm.0
+
+-- step k of train t, from s to s2, looks ahead to this; to nothing exactly where no step comes after it but one back to s
+abbrev pub LooksAheadTo : (net : NetworkPlan) (t k s s2 : ℕ) → Option NextRow → Type 0
+LooksAheadTo net t k s s2 None = (b2 s3 : ℕ) → IsStep net t (k + 1) s2 b2 s3 → s3 ≡ s
+LooksAheadTo net t k s s2 (Some n) = IsNextRow net t k s s2 n
+
 -- the row of step k of train t: the step goes from s through b to s2, x and y are the arms of s and s2 at b,
--- c and c_arm are the other end of s2, and a and a_arm that of s
+-- c and c_arm are the other end of s2, a and a_arm that of s, and next is what it looks ahead to
 pub record IsStepRow (net : NetworkPlan) (t k : ℕ) (row : StepRow) : Type 0 where
   pub step : IsStep net t k row.s.0 row.b.0 row.s2.0
   pub x : arm_of net row.s.0 row.b.0 ≡ Some row.x.0
   pub y : arm_of net row.s2.0 row.b.0 ≡ Some row.y.0
   pub far : IsOtherEnd net row.s2.0 row.b.0 row.c.0 row.c_arm.0
   pub back : IsOtherEnd net row.s.0 row.b.0 row.a.0 row.a_arm.0
+  pub next : LooksAheadTo net t k row.s.0 row.s2.0 row.next
 
 -- the table of train t has its number, the segment on which it starts, and the rows of its steps in order
 pub record IsTrainTable (net : NetworkPlan) (t : ℕ) (x : TrainTable) : Type 0 where

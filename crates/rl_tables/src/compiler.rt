@@ -1,9 +1,11 @@
 ghost use Rattle.std.specs.Prelude.{◌≡◌, ℕ, ◌<◌, ◌≤◌, IfOk, Some, length, slice_get, IsTrue};
 ghost use Rattle.rl_model.specs.Network.{IsTrainOf, IsSegmentOf, IsBoxOf, IsNetwork, steps_of, arm_of, has_end};
-ghost use Rattle.rl_tables.specs.Tables.{IsListOf, IsBoxTable, IsOtherEnd, IsStepRow, IsTrainTable, AreTablesOf};
+ghost use Rattle.rl_model.specs.Network.{route_segment};
+ghost use Rattle.rl_tables.specs.Tables.{IsListOf, IsBoxTable, IsOtherEnd, LooksAheadTo, IsStepRow, IsTrainTable};
+ghost use Rattle.rl_tables.specs.Tables.{AreTablesOf};
 
 use crate::line::Line;
-use crate::table::{BoxTable, BoxTables, StepRow, StepRows, Tables, TrainTable, TrainTables};
+use crate::table::{BoxTable, BoxTables, NextRow, StepRow, StepRows, Tables, TrainTable, TrainTables};
 use rl_base::{Arm, BoxId, NoMemory, SegId, TrainId};
 use rl_net::Network;
 use std::alloc::Global;
@@ -67,6 +69,32 @@ fn span_from(net: &Network, b: BoxId, s: SegId) -> Span
     }
 }
 
+/// What step `k` of the train, from `s` to `s2`, looks ahead to.
+fn next_row(net: &Network, t: TrainId, k: u32, s: SegId, s2: SegId) -> Option<NextRow>
+    requires network { IsNetwork net.now }
+    requires there { IsTrainOf net.now t }
+    requires step { k < steps_of net.now t.0 }
+    requires to { route_segment net.now t.0 (k + 1) ≡ Some s2.0 }
+    ensures { LooksAheadTo net.now t.0 k s.0 s2.0 result }
+{
+    if k + 1 >= net.steps(t) {
+        return None;
+    }
+    let s3 = net.route_seg(t, k + 2);
+    if s3 == s {
+        return None;
+    }
+    let b2 = net.route_box(t, k + 1);
+    let span = span_from(net, b2, s3);
+    Some(NextRow {
+        s3,
+        b2,
+        b2_arm: span.arm,
+        c2: span.far,
+        c2_arm: span.far_arm,
+    })
+}
+
 /// The row of step `k` of the train.
 fn step_row(net: &Network, t: TrainId, k: u32) -> StepRow
     requires network { IsNetwork net.now }
@@ -89,6 +117,7 @@ fn step_row(net: &Network, t: TrainId, k: u32) -> StepRow
         c_arm: to.far_arm,
         a: from.far,
         a_arm: from.far_arm,
+        next: next_row(net, t, k, s, s2),
     }
 }
 

@@ -16,5 +16,5 @@ pub mod text;
 pub use compiler::compile;
 pub use laws::tables_of_networks;
 pub use line::Line;
-pub use table::{BoxTable, BoxTables, StepRow, StepRows, Tables, TrainTable, TrainTables};
+pub use table::{BoxTable, BoxTables, NextRow, StepRow, StepRows, Tables, TrainTable, TrainTables};
 pub use text::tables_text;

@@ -13,6 +13,18 @@ pub struct BoxTable {
     pub seg3: Option<SegId>,
 }
 
+/// The segment after the next one, to which the step after a step goes.
+#[derive(Clone, Copy, Debug, PartialEq, Eq)]
+pub struct NextRow {
+    pub s3: SegId,
+    /// The box of that step, and the arm of `s3` there.
+    pub b2: BoxId,
+    pub b2_arm: Arm,
+    /// The box at the other end of `s3`, and the arm of `s3` there.
+    pub c2: BoxId,
+    pub c2_arm: Arm,
+}
+
 /// A step of a train, from `s` through `b` to `s2`.
 #[derive(Clone, Copy, Debug, PartialEq, Eq)]
 pub struct StepRow {
@@ -29,6 +41,8 @@ pub struct StepRow {
     /// The box at the other end of `s`, and the arm of `s` there.
     pub a: BoxId,
     pub a_arm: Arm,
+    /// Where the step looks ahead: there is a step after it, which doesn't lead back to `s`.
+    pub next: Option<NextRow>,
 }
 
 pub type StepRows = Sequence<StepRow>;

@@ -78,4 +78,4 @@ most_attempts tables tries line few = mul-le (length tables.trains) tries MAX_TR
 pub few_events : (tables : Tables) (tries : ℕ) (events : List Event) → IsLine tables → AreFewTries tries
     → attempts_of tables tries events ≤ length tables.trains * tries → length events ≤ MAX_ATTEMPT_EVENTS * attempts_of tables tries events
     → IsU32 (length events)
-few_events tables tries events line few posted made = omega (arith, most_attempts tables tries line few)
+few_events tables tries events line few opened made = omega (arith, most_attempts tables tries line few)

@@ -2,7 +2,7 @@
 use Rattle.std.proofs.Common.{◌≡◌, ℕ, ◌%◌, ◌==◌, true, false, Option, Some, None, refl, sym, ap, ◌∙◌, arith}
 use Rattle.std.proofs.lemmas.Bool.{eq-eqb, or_left, or_right, true≢false}
 use Rattle.rl_base.specs.declared.job.Job.{Job}
-use Rattle.rl_base.specs.declared.job.Job.TheVariants.{Near, Far, Lock, Pass, Unlock, FreeNear, FreeFar, DropFar, DropNear}
+use Rattle.rl_base.specs.declared.job.Job.TheVariants.{Near, Far, Near2, Far2, Lock, Pass, Unlock, FreeNear, FreeFar, DropFar2, DropNear2, DropFar, DropNear}
 use Rattle.rl_base.specs.declared.layout.WordKind.{WordKind}
 use Rattle.rl_words.specs.declared.mail.Letter.{Letter}
 use Rattle.rl_words.specs.declared.mail.MailWord.TheVariants.{Yes, No}
@@ -25,11 +25,15 @@ has_letter : (row : StepRow) (job : Job) (l : Letter) → letter row job ≡ Som
 unfolding letter is_pass
 has_letter row Near l is = refl
 has_letter row Far l is = refl
+has_letter row Near2 l is = refl
+has_letter row Far2 l is = refl
 has_letter row Lock l is = refl
 has_letter row Pass l is = absurd (cc)
 has_letter row Unlock l is = refl
 has_letter row FreeNear l is = refl
 has_letter row FreeFar l is = refl
+has_letter row DropFar2 l is = refl
+has_letter row DropNear2 l is = refl
 has_letter row DropFar l is = refl
 has_letter row DropNear l is = refl
 

@@ -6,7 +6,7 @@ use Rattle.std.proofs.lemmas.Bool.{and_parts, and_from, or_parts, or_from, eqb-t
 use Rattle.std.proofs.lemmas.Option.{same_Some}
 use Rattle.rl_base.specs.declared.ids.TrainId.{TrainId}
 use Rattle.rl_base.specs.declared.job.Job.{Job}
-use Rattle.rl_base.specs.declared.job.Job.TheVariants.{Near, Far, Lock, Pass, Unlock, FreeNear, FreeFar, DropFar, DropNear}
+use Rattle.rl_base.specs.declared.job.Job.TheVariants.{Near, Far, Near2, Far2, Lock, Pass, Unlock, FreeNear, FreeFar, DropFar2, DropNear2, DropFar, DropNear}
 use Rattle.rl_words.specs.declared.mail.Letter.{Letter}
 use Rattle.rl_words.specs.declared.mail.MailWord.{MailWord}
 use Rattle.rl_words.specs.declared.mail.MailWord.TheVariants.{Empty, Ask, Taken, Yes, No}
@@ -22,7 +22,7 @@ use Rattle.rl_tables.specs.declared.table.StepRow.{StepRow}
 use Rattle.rl_tables.specs.declared.table.TrainTable.{TrainTable}
 use Rattle.rl_train.specs.declared.mind.TrainMind.{TrainMind}
 use Rattle.rl_train.specs.Jobs.{letter, asks, is_pass}
-use Rattle.rl_train.specs.Mind.{row_of, at_rest}
+use Rattle.rl_train.specs.Mind.{row_of, looks_on, at_rest}
 use Rattle.rl_train.specs.Steps.{posted, heard, denied, TrainStep, mail_turn, on_mail, on_run, on_sense, train_on}
 use Rattle.rl_train.specs.Steps.TrainStep.{post, hear_yes, hear_no, go, quiet}
 
@@ -45,11 +45,15 @@ pass_is : (job : Job) → is_pass job ≡ true → job ≡ Pass
 unfolding is_pass
 pass_is Near e = absurd (cc)
 pass_is Far e = absurd (cc)
+pass_is Near2 e = absurd (cc)
+pass_is Far2 e = absurd (cc)
 pass_is Lock e = absurd (cc)
 pass_is Pass e = refl
 pass_is Unlock e = absurd (cc)
 pass_is FreeNear e = absurd (cc)
 pass_is FreeFar e = absurd (cc)
+pass_is DropFar2 e = absurd (cc)
+pass_is DropNear2 e = absurd (cc)
 pass_is DropFar e = absurd (cc)
 pass_is DropNear e = absurd (cc)
 
@@ -167,7 +171,7 @@ module _ (table : TrainTable) (mind : TrainMind) where
       mail_back Empty row (Ask l, posted mind) here (rw (off, is) refl)
   back same _ _ _ (hear_yes row l here is waits) =
       let on : (mind.waits && asks row mind.job l) ≡ true = and_from mind.waits _ waits (asks_own same (letter row mind.job) l is) in
-      mail_back (Yes l) row (Empty, heard row mind) here (rw on refl)
+      mail_back (Yes l) row (Empty, heard row (looks_on table mind) mind) here (rw on refl)
   back same _ _ _ (hear_no row l u next here is then_job waits) =
       let on : (mind.waits && asks row mind.job l) ≡ true = and_from mind.waits _ waits (asks_own same (letter row mind.job) l is) in
       mail_back (No l u) row (Empty, denied next mind) here (rw (on, then_job) refl)

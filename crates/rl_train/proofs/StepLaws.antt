@@ -4,7 +4,7 @@ use Rattle.std.proofs.lemmas.Bool.{and_right}
 use Rattle.std.proofs.lemmas.Option.{same_Some, some_pair_parts}
 use Rattle.rl_base.specs.Numbers.{IsU32}
 use Rattle.rl_base.specs.declared.job.Job.{Job}
-use Rattle.rl_base.specs.declared.job.Job.TheVariants.{Near, Far, Lock, Pass, Unlock, FreeNear, FreeFar, DropFar, DropNear}
+use Rattle.rl_base.specs.declared.job.Job.TheVariants.{Near, Far, Near2, Far2, Lock, Pass, Unlock, FreeNear, FreeFar, DropFar2, DropNear2, DropFar, DropNear}
 use Rattle.rl_base.specs.declared.layout.Layout.{Layout}
 use Rattle.rl_base.specs.declared.layout.NodeKind.{NodeKind}
 use Rattle.rl_base.specs.declared.layout.NodeKind.TheVariants as nodes
@@ -15,7 +15,7 @@ use Rattle.rl_words.specs.declared.mail.Letter.{Letter}
 use Rattle.rl_words.specs.Mail.{FitsLetter}
 use Rattle.rl_words.specs.Owner.{Owns}
 use Rattle.rl_words.specs.Word.{Word, kind_of, FitsWord, packed_word, read_word, word_owner, IsReading, PackedStep}
-use Rattle.rl_words.proofs.PackedSteps.{packed_front, packed_back, packed_by}
+use Rattle.rl_words.proofs.PackedSteps.{mapped, packed_front, packed_back, packed_by}
 use Rattle.rl_tables.specs.declared.table.StepRow.{StepRow}
 use Rattle.rl_tables.specs.declared.table.TrainTable.{TrainTable}
 use Rattle.rl_train.specs.declared.mind.TrainMind.{TrainMind}
@@ -73,11 +73,15 @@ not_pass : (row : StepRow) (job : Job) (l : Letter) → letter row job ≡ Some 
 unfolding letter is_pass
 not_pass row Near l e = refl
 not_pass row Far l e = refl
+not_pass row Near2 l e = refl
+not_pass row Far2 l e = refl
 not_pass row Lock l e = refl
 not_pass row Pass l e = absurd (cc)
 not_pass row Unlock l e = refl
 not_pass row FreeNear l e = refl
 not_pass row FreeFar l e = refl
+not_pass row DropFar2 l e = refl
+not_pass row DropNear2 l e = refl
 not_pass row DropFar l e = refl
 not_pass row DropNear l e = refl
 
@@ -113,19 +117,35 @@ letter_fits : (row : StepRow) (job : Job) (l : Letter) → CanBeNamed row → le
 unfolding letter
 letter_fits row Near l n e = subst FitsLetter (same_Some _ l e) (record { to = n.b; x = n.y; y = omega arith; arms = refl })
 letter_fits row Far l n e = subst FitsLetter (same_Some _ l e) (record { to = n.c; x = n.c_arm; y = omega arith; arms = refl })
+letter_fits row Near2 l n e =
+    let m = mapped _ _ _ e in
+    let named = n.next m.0 m.1 in
+    subst FitsLetter m.2 (record { to = named.b2; x = named.b2_arm; y = omega arith; arms = refl })
+letter_fits row Far2 l n e =
+    let m = mapped _ _ _ e in
+    let named = n.next m.0 m.1 in
+    subst FitsLetter m.2 (record { to = named.c2; x = named.c2_arm; y = omega arith; arms = refl })
 letter_fits row Lock l n e = subst FitsLetter (same_Some _ l e) (record { to = n.b; x = n.x; y = n.y; arms = n.apart })
 letter_fits row Pass l n e = absurd (cc)
 letter_fits row Unlock l n e = subst FitsLetter (same_Some _ l e) (record { to = n.b; x = n.x; y = n.y; arms = n.apart })
 letter_fits row FreeNear l n e = subst FitsLetter (same_Some _ l e) (record { to = n.b; x = n.x; y = omega arith; arms = refl })
 letter_fits row FreeFar l n e = subst FitsLetter (same_Some _ l e) (record { to = n.a; x = n.a_arm; y = omega arith; arms = refl })
+letter_fits row DropFar2 l n e =
+    let m = mapped _ _ _ e in
+    let named = n.next m.0 m.1 in
+    subst FitsLetter m.2 (record { to = named.c2; x = named.c2_arm; y = omega arith; arms = refl })
+letter_fits row DropNear2 l n e =
+    let m = mapped _ _ _ e in
+    let named = n.next m.0 m.1 in
+    subst FitsLetter m.2 (record { to = named.b2; x = named.b2_arm; y = omega arith; arms = refl })
 letter_fits row DropFar l n e = subst FitsLetter (same_Some _ l e) (record { to = n.c; x = n.c_arm; y = omega arith; arms = refl })
 letter_fits row DropNear l n e = subst FitsLetter (same_Some _ l e) (record { to = n.b; x = n.y; y = omega arith; arms = refl })
 
 kept : (table : TrainTable) (mind : TrainMind) (word next : Word) (after : TrainMind) → IsUsable table → IsTrainMind table mind
     → TrainStep table mind word next after → FitsWord next × IsTrainMind table after
 kept table mind _ _ _ u h (post row l here is waits rests) = (letter_fits row mind.job l (u.rows mind.step row here) is, posted_kept table mind h waits rests)
-kept table mind _ _ _ u h (hear_yes row l here is waits) = (tt, heard_kept table row mind h waits)
-kept table mind _ _ _ u h (hear_no row l holder next here is then_job waits) = (tt, denied_kept table row mind next h waits then_job)
+kept table mind _ _ _ u h (hear_yes row l here is waits) = (tt, heard_kept table row mind u h waits here)
+kept table mind _ _ _ u h (hear_no row l holder next here is then_job waits) = (tt, denied_kept table row mind next h waits here then_job)
 kept table mind _ _ _ u h (go is waits) =
     let on = passing_on_route table mind h is in
     let short = u.short in

@@ -1,5 +1,5 @@
 -- The steps of a train: first as sentences, one for each line of the table of steps, then as a function.
-use Rattle.std.specs.Prelude.{◌≡◌, ℕ, ◌+◌, ◌-◌, ◌==◌, true, false, not, ◌&&◌, ◌||◌, Option, Some, None, option_map}
+use Rattle.std.specs.Prelude.{◌≡◌, ℕ, ◌+◌, ◌-◌, ◌==◌, Bool, true, false, not, ◌&&◌, ◌||◌, Option, Some, None, option_map}
 use Rattle.std.specs.Prelude.{option_and_then, if◌then◌else◌}
 use Rattle.rl_base.specs.declared.ids.TrainId.{TrainId}
 use Rattle.rl_base.specs.declared.job.Job.{Job}
@@ -18,21 +18,24 @@ use Rattle.rl_words.specs.Word.Word.{Resv, Lock, Mail, Run, Sense}
 use Rattle.rl_tables.specs.declared.table.StepRow.{StepRow}
 use Rattle.rl_tables.specs.declared.table.TrainTable.{TrainTable}
 use Rattle.rl_train.specs.declared.mind.TrainMind.{TrainMind}
-use Rattle.rl_train.specs.Jobs.{letter, after_yes, after_no, asks, is_near, is_pass, ends_step}
-use Rattle.rl_train.specs.Mind.{row_of, at_rest}
+use Rattle.rl_train.specs.Jobs.{letter, after_yes, after_no, reopens, asks, is_near, is_pass, ends_step}
+use Rattle.rl_train.specs.Mind.{row_of, looks_on, at_rest}
 
 -- the mind after a post, which in Near uses up an attempt
 abbrev pub posted : TrainMind → TrainMind
 posted mind = record mind { waits = true; left = if is_near mind.job then mind.left - 1 else mind.left }
 
--- after yes
-abbrev pub heard : StepRow → TrainMind → TrainMind
-heard row mind =
+-- the mind after yes, which at the end of a step that looked ahead uses up the next attempt; `more` says that the row
+-- after this one looks ahead
+abbrev pub heard : StepRow → (more : Bool) → TrainMind → TrainMind
+heard row more mind =
     record mind {
       waits = false;
-      job = after_yes row mind.job;
+      job = after_yes row more (mind.left == 0) mind.job;
       step =
           if ends_step mind.job then mind.step + 1 else mind.step;
+      left =
+          if reopens row (mind.left == 0) mind.job then mind.left - 1 else mind.left;
     }
 
 -- after no, with the job that comes then
@@ -52,7 +55,8 @@ pub data TrainStep (table : TrainTable) (mind : TrainMind) : Word → Word → T
   hear_yes :
       (row : StepRow) (l : Letter)
       → row_of table mind ≡ Some row → letter row mind.job ≡ Some l → mind.waits ≡ true
-      → TrainStep table mind (Mail table.number (Yes l)) (Mail table.number Empty) (heard row mind)
+      → TrainStep table mind (Mail table.number (Yes l)) (Mail table.number Empty)
+      (heard row (looks_on table mind) mind)
   -- the box has said no, since another train holds what it asked for
   hear_no :
       (row : StepRow) (l : Letter) (holder : TrainId) (next : Job)
@@ -76,7 +80,8 @@ mail_turn table mind Empty row =
     if mind.waits || at_rest table mind then None else option_map (λ l. (Ask l, posted mind)) (letter row mind.job)
 mail_turn table mind (Ask l) row = None
 mail_turn table mind (Taken l) row = None
-mail_turn table mind (Yes l) row = if mind.waits && asks row mind.job l then Some (Empty, heard row mind) else None
+mail_turn table mind (Yes l) row =
+    if mind.waits && asks row mind.job l then Some (Empty, heard row (looks_on table mind) mind) else None
 mail_turn table mind (No l holder) row =
     if mind.waits && asks row mind.job l
     then option_map (λ next. (Empty, denied next mind)) (after_no row mind.job)

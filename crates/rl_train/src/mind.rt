@@ -21,7 +21,7 @@ pub struct TrainMind {
 
 impl TrainMind {
     /// At the first step, with so many attempts left.
-    #[tactic(auto, unfolding(crate::specs::Jobs::is_near, crate::specs::Jobs::is_open))]
+    #[tactic(auto, unfolding(crate::specs::Jobs::is_near, crate::specs::Jobs::is_open, crate::specs::Jobs::names_next))]
     pub fn start(tries: u32) -> TrainMind
         ensures mind { result ≡ start_train tries }
         ensures kept { AreFewTries tries → (table : TrainTable) → IsTrainMind table result }

@@ -9,10 +9,10 @@ ghost use Rattle.rl_words.specs.Sense.{FitsSense};
 ghost use Rattle.rl_tables.specs.declared.table.TrainTable.{TrainTable};
 ghost use Rattle.rl_train.specs.Glance.{may_hear};
 ghost use Rattle.rl_train.specs.Jobs.{after_no};
-ghost use Rattle.rl_train.specs.Mind.{row_of, at_rest, IsTrainMind, CanBeNamed, IsUsable};
+ghost use Rattle.rl_train.specs.Mind.{row_of, looks_on, at_rest, IsTrainMind, CanBeNamed, IsUsable};
 ghost use Rattle.rl_train.specs.Steps.{posted, heard, denied, on_mail, on_run, on_sense, train_step, train_target};
 
-use crate::jobs::{after_no, after_yes, asks, ends_step, is_near, is_pass, letter};
+use crate::jobs::{after_no, after_yes, asks, ends_step, is_near, is_pass, letter, looks_ahead, reopens};
 use crate::laws::train_glances;
 use crate::mind::TrainMind;
 use rl_base::{Job, Layout, TrainId, WordKind, WordNo};
@@ -109,6 +109,15 @@ impl TrainMind {
         }
     }
 
+    /// Whether the step after its own looks ahead.
+    fn looks_on(&self, t: &TrainTable) -> bool
+        requires { self.now.step ≤ MAX_STEPS }
+        ensures { result ≡ looks_on t.now self.now }
+    {
+        let after = self.step as usize + 1;
+        after < t.rows.len() && looks_ahead(t.rows.at(after))
+    }
+
     /// It posts a letter, or hears what is answered to it.
     fn on_mail(&self, t: &TrainTable, word: MailWord) -> Option<(MailWord, TrainMind)>
         requires table { IsUsable t.now }
@@ -150,7 +159,7 @@ impl TrainMind {
     {
         let row = self.row(t)?;
         if self.waits && asks(row, self.job, &by) {
-            Some((MailWord::Empty, self.heard(row)))
+            Some((MailWord::Empty, self.heard(row, self.looks_on(t))))
         } else {
             None
         }
@@ -175,7 +184,7 @@ impl TrainMind {
     }
 
     /// It goes into the box.
-    #[tactic(auto, unfolding(crate::specs::Jobs::is_near, crate::specs::Jobs::is_open, crate::specs::Jobs::is_pass))]
+    #[tactic(auto, unfolding(crate::specs::Jobs::is_near, crate::specs::Jobs::is_open, crate::specs::Jobs::is_pass, crate::specs::Jobs::names_next))]
     fn on_run(&self, t: &TrainTable, word: RunWord) -> Option<(RunWord, TrainMind)>
         requires table { IsUsable t.now }
         requires mind { IsTrainMind t.now self.now }
@@ -196,7 +205,7 @@ impl TrainMind {
     }
 
     /// It hears that its tail is past the box.
-    #[tactic(auto, unfolding(crate::specs::Jobs::is_near, crate::specs::Jobs::is_open, crate::specs::Jobs::is_pass))]
+    #[tactic(auto, unfolding(crate::specs::Jobs::is_near, crate::specs::Jobs::is_open, crate::specs::Jobs::is_pass, crate::specs::Jobs::names_next))]
     fn on_sense(&self, t: &TrainTable, word: SenseWord) -> Option<(SenseWord, TrainMind)>
         requires table { IsUsable t.now }
         requires mind { IsTrainMind t.now self.now }
@@ -236,20 +245,27 @@ impl TrainMind {
         }
     }
 
-    /// The mind after yes.
-    fn heard(&self, row: &StepRow) -> TrainMind
+    /// The mind after yes. At the end of a step that looked ahead the next attempt is opened, where one is left.
+    fn heard(&self, row: &StepRow, more: bool) -> TrainMind
         requires { self.now.step ≤ MAX_STEPS }
-        ensures { result ≡ heard row.now self.now }
+        ensures { result ≡ heard row.now more self.now }
     {
+        let spent = self.left == 0;
         let step = if ends_step(self.job) {
             self.step + 1
         } else {
             self.step
         };
+        let left = if reopens(row, spent, self.job) {
+            self.left.saturating_sub(1)
+        } else {
+            self.left
+        };
         TrainMind {
             waits: false,
-            job: after_yes(row, self.job),
+            job: after_yes(row, more, spent, self.job),
             step,
+            left,
             ..*self
         }
     }
@@ -260,7 +276,8 @@ impl TrainMind {
         requires { self.now.refused ≤ MAX_TRIES }
         ensures mind { result ≡ denied next self.now }
         ensures kept { (table : TrainTable) → IsTrainMind table self.now → self.now.waits ≡ true
-            → after_no _row.now self.now.job ≡ Some next → IsTrainMind table result }
+            → row_of table self.now ≡ Some _row.now → after_no _row.now self.now.job ≡ Some next
+            → IsTrainMind table result }
     {
         TrainMind {
             waits: false,

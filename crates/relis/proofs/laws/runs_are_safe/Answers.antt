@@ -21,9 +21,9 @@ returns c =
     let events = ran.to_rest.events in
     let line = c.tables_of_networks.ensures.line net tables is ran.of_network in
     let made = c.counted_events.ensures.moves tables tries events line less ran.to_rest.run in
-    let posted = c.counted_events.ensures.posted tables tries events in
+    let opened = c.counted_events.ensures.opened tables tries events in
     subst (λ (r : Report). length r.moves ≤ MAX_MOVES) (sym ran.to_rest.report_is)
-    (few_moves tables tries (attempts_of tables tries events) (length (moves_of tables events)) line less posted made) in
+    (few_moves tables tries (attempts_of tables tries events) (length (moves_of tables events)) line less opened made) in
     record {
       few = few;
       safe = λ net tries text is less printed.

@@ -30,7 +30,7 @@ returns c =
     let counted = c.counted_events.ensures in
     let laws : Laws = record {
       merged = c.merged_records.ensures.run;
-      counts = record { events = counted.events; node = counted.node; posted = counted.posted };
+      counts = record { events = counted.events; node = counted.node; opened = counted.opened };
     } in
     let (log, last) = last_run rails c.take_all_in.new.rails parts words c.requires.none_taken told.rails told.taken close.line close.tries close.run in
     let merge = subst (λ (l : List Record). IsMergeOf l events) told.records c.in_ok-events.ensures in

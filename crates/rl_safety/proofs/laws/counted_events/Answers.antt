@@ -1,6 +1,6 @@
 use Rattle.std.proofs.Common.{length}
 use Rattle.rl_steps.specs.Run.{state}
-use Rattle.rl_protocol.proofs.Totals.{posted_most}
+use Rattle.rl_protocol.proofs.Totals.{opened_most}
 use Rattle.rl_safety.specs.Reading.{read}
 use Rattle.rl_protocol.specs.TableLine.{line_of}
 use Rattle.rl_safety.proofs.laws.counted_events.Goals as goal
@@ -23,5 +23,5 @@ returns c =
           let fine = c.lines_of_tables.ensures.consistent tables line in
           let trains = c.lines_of_tables.ensures.trains tables in
           rw (is.moves, is.state) (c.counted_steps.ensures.moves (line_of tables) tries (length tables.trains) is.steps fine trains is.run);
-      posted = λ tables tries events. posted_most tries (read tables tries (state tables tries events)) (length tables.trains);
+      opened = λ tables tries events. opened_most tries (read tables tries (state tables tries events)) (length tables.trains);
     }

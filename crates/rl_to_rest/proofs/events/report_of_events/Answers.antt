@@ -10,7 +10,7 @@ moves_of-requires c =
     let events = c.args.events.now in
     let line = c.layout-layout.ensures.line in
     let log = reverse events in
-    let posted = c.counted_events.ensures.posted tables c.args.tries log in
+    let opened = c.counted_events.ensures.opened tables c.args.tries log in
     let made = c.counted_events.ensures.events tables c.args.tries log line c.requires.few_tries c.requires.run in
-    let short : IsU32 (length log) = few_events tables c.args.tries log line c.requires.few_tries posted made in
+    let short : IsU32 (length log) = few_events tables c.args.tries log line c.requires.few_tries opened made in
     on_the_line tables c.args.tries events c.sound_runs.ensures line c.requires.few_tries (rw (← length-reverse events) short) c.requires.run

@@ -7,4 +7,5 @@ use Rattle.rl_train.proofs.mind.TrainMind.hear_yes.Goals as goal
 pub returns-then-asks-clause-kept : goal.returns-then-asks-clause-kept
 returns-then-asks-clause-kept c =
     let waits : c.args.self.now.waits ≡ true = grind arith in
-    subst (λ (m : TrainMind). IsTrainMind c.args.t.now m) (sym c.heard.ensures) (heard_kept c.args.t.now _ c.args.self.now c.requires.mind waits)
+    let here = grind arith in
+    subst (λ (m : TrainMind). IsTrainMind c.args.t.now m) (sym c.heard.ensures) (heard_kept c.args.t.now _ c.args.self.now c.requires.table c.requires.mind waits here)
