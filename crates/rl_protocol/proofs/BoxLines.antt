@@ -40,6 +40,7 @@ use Rattle.rl_protocol.specs.Nodes.{node_of, word_of}
 use Rattle.rl_protocol.specs.Agreement.{Agrees}
 use Rattle.std.proofs.lemmas.Option.{same_Some}
 use Rattle.rl_protocol.specs.AtWork.{word_for, word_at_work}
+use Rattle.rl_protocol.proofs.Asked.{asked_steps}
 use Rattle.rl_protocol.proofs.Served.{at_work}
 use Rattle.rl_protocol.proofs.TableLines.{consistent_line}
 use Rattle.rl_protocol.specs.TableLine.{line_of}
@@ -276,3 +277,12 @@ module _ (tables : Tables) (s : State) (b : ℕ) (table : BoxTable) (line : IsLi
   work_line tries w agrees at has =
       let step = at_work (line_of tables) tries s b (kind_of w) (consistent_line tables line) agrees at in
       line_there tries step.step w agrees step.fits step.by_node step.on_word (work_words (s.boxes b).work (kind_of w) at) has
+
+  -- so has a ready box at the mailbox in which it is asked
+  pub asked_line : (tries t : ℕ) (l : Letter) → Agrees (line_of tables) tries s → l.to.0 ≡ b → s.mail t ≡ mails.Ask l → (s.boxes b).work ≡ Ready
+      → HasLine table (s.boxes b) (Mail (train t) (mails.Ask l))
+  asked_line tries t l agrees to mail ready =
+      let ready_there : (s.boxes l.to.0).work ≡ Ready = subst (λ n. (s.boxes n).work ≡ Ready) (sym to) ready in
+      let step = asked_steps (line_of tables) tries s t l (consistent_line tables line) agrees mail ready_there in
+      line_there tries step.step (Mail (train t) (mails.Ask l)) agrees step.fits (step.by_node ∙ ap (λ n. nodes.Box (box n)) to) step.on_word
+      (inr (inr (train t, refl))) mail

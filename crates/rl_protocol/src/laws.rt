@@ -136,7 +136,8 @@ pub fn counted_steps()
 {}
 
 /// What the sentences of a node relate, seen in a state that agrees, is a step that fits it, and that leaves it with
-/// that mind and that word. A box at work has a line at the word at which it looks.
+/// that mind and that word. A box at work has a line at the word at which it looks, and a ready one at the mailbox in
+/// which it is asked.
 pub fn sentences_as_steps()
     ensures trains { (tables : Tables) (s : State) (t : ℕ) (table : TrainTable) (w v : Word) (mind : TrainMind)
         → IsLine tables → slice_get tables.trains t ≡ Some table
@@ -154,4 +155,8 @@ pub fn sentences_as_steps()
     ensures at_work { (tables : Tables) (tries : ℕ) (s : State) (b : ℕ) (table : BoxTable) (w : Word)
         → IsLine tables → Agrees (line_of tables) tries s → slice_get tables.boxes b ≡ Some table
         → word_at_work b (s.boxes b).work ≡ Some (kind_of w) → StateSays s w → HasLine table (s.boxes b) w }
+    ensures asked { (tables : Tables) (tries : ℕ) (s : State) (t : ℕ) (l : Letter) (table : BoxTable)
+        → IsLine tables → Agrees (line_of tables) tries s → slice_get tables.boxes l.to.0 ≡ Some table
+        → s.mail t ≡ Ask l → (s.boxes l.to.0).work ≡ Ready
+        → HasLine table (s.boxes l.to.0) (Word.Mail (train t) (Ask l)) }
 {}

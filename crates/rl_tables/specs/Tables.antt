@@ -1,5 +1,5 @@
 -- What the tables of a network are: one for each box and one for each train, with a row for each step.
-use Rattle.std.specs.Prelude.{◌≡◌, ℕ, zero, suc, ◌≢◌, length, List, slice_get, Option, Some, None, option_map}
+use Rattle.std.specs.Prelude.{◌≡◌, ℕ, zero, suc, ◌+◌, ◌≢◌, length, List, slice_get, Option, Some, None, option_map}
 use Rattle.rl_base.specs.declared.ids.SegId.{SegId}
 use Rattle.rl_model.specs.declared.network.NetworkPlan.{NetworkPlan}
 use Rattle.rl_model.specs.Network.{kind_of, start_side, segment_at, arm_of, steps_of, StartsOn, IsStep}

@@ -2,7 +2,7 @@ use Rattle.std.proofs.Common.{refl, ap}
 use Rattle.rl_protocol.specs.Minds.{train, box}
 use Rattle.rl_protocol.proofs.Labels.{train_makes, track_makes, machine_makes}
 use Rattle.rl_protocol.proofs.BoxLabels.{box_makes}
-use Rattle.rl_protocol.proofs.BoxLines.{work_line}
+use Rattle.rl_protocol.proofs.BoxLines.{work_line, asked_line}
 use Rattle.rl_protocol.proofs.laws.sentences_as_steps.Goals as goal
 
 pub returns : goal.returns
@@ -16,4 +16,6 @@ returns c =
       machines = λ line s b before after w v step has. machine_makes line s b before after w v step has;
       at_work = λ tables tries s b table w line agrees there at has. work_line tables s b table line there
           (ap (λ n. box n) (line.boxes b table there).number) tries w agrees at has;
+      asked = λ tables tries s t l table line agrees there mail ready. asked_line tables s l.to.0 table line there
+          (ap (λ n. box n) (line.boxes l.to.0 table there).number) tries t l agrees refl mail ready;
     }
