@@ -1,7 +1,7 @@
 -- A step of a train leaves its mind well formed.
 use Rattle.std.proofs.Common.{◌≡◌, ℕ, zero, suc, ◌+◌, ◌-◌, ◌<◌, ◌==◌, Bool, true, false, cond, length, slice_get, Some, refl, sym, ◌∙◌, subst, ap, arith}
 use Rattle.std.specs.Option.{option_map_or}
-use Rattle.std.proofs.lemmas.Bool.{or_parts, eqb-false, false≢true}
+use Rattle.std.proofs.lemmas.Bool.{or_parts, eqb-false, ne_eqb, false≢true}
 use Rattle.std.proofs.lemmas.Option.{same_Some}
 use Rattle.rl_base.specs.Tries.{AreFewTries}
 use Rattle.rl_base.specs.declared.job.Job.{Job}
@@ -52,8 +52,14 @@ module _ (table : TrainTable) (row : StepRow) (step left refused : ℕ) (here : 
       of : (left2 : ℕ) (more : Bool) → left ≡ left2 → (more ≡ true → (r : StepRow) → slice_get table.rows (step + 1) ≡ Some r → looks_ahead r ≡ true)
           → IsTrainMind table (heard row more (mind_of step FreeFar true left2 refused))
       of zero more same on_next = let few = h.few in rw e (on_route table _ on (λ f. absurd (false≢true f)) (omega arith))
-      of (suc n) true same on_next = let few = h.few in rw e (on_route table _ on (λ _ r f. on_next refl r f) (omega arith))
-      of (suc n) false same on_next = let few = h.few in rw e (on_route table _ on (λ f. absurd (false≢true f)) (omega arith))
+      of (suc n) true same on_next =
+          let few = h.few in
+          let some = ne_eqb (suc n) 0 (λ z. omega arith) in
+          rw (e, some) (on_route table _ on (λ _ r f. on_next refl r f) (omega arith))
+      of (suc n) false same on_next =
+          let few = h.few in
+          let some = ne_eqb (suc n) 0 (λ z. omega arith) in
+          rw (e, some) (on_route table _ on (λ f. absurd (false≢true f)) (omega arith))
 
   heard_parts : (job : Job) (more : Bool) → IsUsable table
       → (more ≡ true → (r : StepRow) → slice_get table.rows (step + 1) ≡ Some r → looks_ahead r ≡ true)
