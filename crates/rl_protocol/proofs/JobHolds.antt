@@ -1,7 +1,7 @@
 -- What a train holds and has locked by its job before and after an answer.
-use Rattle.std.proofs.Common.{◌≡◌, ◌≢◌, ℕ, ◌+◌, ◌<◌, ◌==◌, Bool, true, false, cond, not, ◌&&◌, ◌||◌, Option, Some, refl, sym, ap, subst, arith}
+use Rattle.std.proofs.Common.{◌≡◌, ◌≢◌, ℕ, ◌+◌, ◌<◌, ◌==◌, Bool, true, false, cond, not, ◌&&◌, ◌||◌, Option, Some, refl, sym, ap, ◌∙◌, subst, ⊎_elim, arith}
 use Rattle.std.specs.Prelude.{is_some, option_map}
-use Rattle.std.proofs.lemmas.Bool.{cases_Bool}
+use Rattle.std.proofs.lemmas.Bool.{cases_Bool, or_right}
 use Rattle.std.proofs.lemmas.Bool.Decides.{nat_tests}
 use Rattle.std.proofs.lemmas.Option.{none-some}
 use Rattle.rl_base.specs.declared.job.Job.{Job}
@@ -30,6 +30,18 @@ HoldsOn line t k b x spent job l =
 dropped : (here ahead beyond p q : Bool) → beyond ≡ (p || q) → (here ≡ true → beyond ≡ false) → (ahead ≡ true → beyond ≡ false)
     → (p ≡ true → q ≡ false) → (here || ahead || p) ≡ ((here || ahead || true && beyond) && not q)
 dropped here ahead beyond p q e f g h = grind (arith, cases_Bool here, cases_Bool ahead, cases_Bool p, cases_Bool q)
+
+-- and what is held with that end
+added : (here ahead beyond p q : Bool) → beyond ≡ (p || q) → (here || ahead || true && beyond) ≡ ((here || ahead || p) || q)
+added here ahead beyond p q e = grind (arith, cases_Bool here, cases_Bool ahead, cases_Bool p, cases_Bool q)
+
+-- what is left when an end apart from all else is given back
+given_back : (p ahead : Bool) → (p ≡ true → ahead ≡ false) → ahead ≡ ((p || ahead || false) && not p)
+given_back p ahead f = grind (arith, cases_Bool p, cases_Bool ahead)
+
+given_back_ahead : (p ahead beyond : Bool) → (p ≡ true → ahead ≡ false) → (p ≡ true → beyond ≡ false)
+    → (ahead || beyond) ≡ ((p || ahead || true && beyond) && not p)
+given_back_ahead p ahead beyond f g = grind (arith, cases_Bool p, cases_Bool ahead, cases_Bool beyond)
 
 -- two boxes are no one place
 two_boxes : (b2 y c2 z : ℕ) (b x : ℕ) → c2 ≢ b2 → (b2 == b && y == x) ≡ true → (c2 == b && z == x) ≡ false
@@ -64,21 +76,49 @@ module _ (line : Line) (t k b x : ℕ) (spent : Bool) (l : Letter) (is : IsStepO
   unfolding HoldsOn letter holds_at after_yes ends_step
   drop_near h = grind (arith, nat_tests, is.here b x, is.ahead b x, is.apart b x)
 
-  -- the segment that is left is apart from the one beyond, and the places of a step after this one are its row's
-  free_far : letter (line.row t k) jobs.FreeFar ≡ Some l → HoldsOn line t k b x spent jobs.FreeFar l
+  -- the end that is given back is one of the segment that is left, and so none of the next and of the one beyond
+  left_ahead : at (line.row t k).a (line.row t k).a_arm b x ≡ true → line.ends t (k + 1) b x ≡ false
+  left_ahead e = is.apart b x (is.here b x ∙ or_right _ _ e)
+
+  left_beyond : looks_ahead (line.row t k) ≡ true → at (line.row t k).a (line.row t k).a_arm b x ≡ true → line.ends t (k + 2) b x ≡ false
+  left_beyond looks e = is.beyond_apart looks b x (is.here b x ∙ or_right _ _ e)
+
+  free_far_alone : looks_ahead (line.row t k) ≡ false → letter (line.row t k) jobs.FreeFar ≡ Some l → HoldsOn line t k b x spent jobs.FreeFar l
   unfolding HoldsOn letter holds_at after_yes ends_step
-  free_far h =
-      grind (arith, nat_tests, is.here b x, is.ahead b x, is.apart b x, is.beyond_apart, cases_Bool (looks_ahead (line.row t k)), cases_Bool spent,
-        cases_Bool (looks_ahead (line.row t (k + 1))))
+  free_far_alone looks h =
+      let is_left = given_back (at (line.row t k).a (line.row t k).a_arm b x) (line.ends t (k + 1) b x) left_ahead in
+      grind arith
+
+  left_whole : looks_ahead (line.row t k) ≡ true → let p = at (line.row t k).a (line.row t k).a_arm b x in
+      (line.ends t (k + 1) b x || line.ends t (k + 2) b x) ≡ ((p || line.ends t (k + 1) b x || true && line.ends t (k + 2) b x) && not p)
+  left_whole looks = given_back_ahead _ (line.ends t (k + 1) b x) (line.ends t (k + 2) b x) left_ahead (left_beyond looks)
+
+  -- the train goes on at the step after this one, or drops its segment there, and looks ahead again or not
+  free_far_spent : looks_ahead (line.row t k) ≡ true → letter (line.row t k) jobs.FreeFar ≡ Some l → HoldsOn line t k b x true jobs.FreeFar l
+  unfolding HoldsOn letter holds_at after_yes ends_step
+  free_far_spent looks h = let is_left = left_whole looks in grind arith
+
+  free_far_more : looks_ahead (line.row t k) ≡ true → looks_ahead (line.row t (k + 1)) ≡ true → letter (line.row t k) jobs.FreeFar ≡ Some l
+      → HoldsOn line t k b x false jobs.FreeFar l
+  unfolding HoldsOn letter holds_at after_yes ends_step
+  free_far_more looks more h = let is_left = left_whole looks in grind arith
+
+  free_far_last : looks_ahead (line.row t k) ≡ true → looks_ahead (line.row t (k + 1)) ≡ false → letter (line.row t k) jobs.FreeFar ≡ Some l
+      → HoldsOn line t k b x false jobs.FreeFar l
+  unfolding HoldsOn letter holds_at after_yes ends_step
+  free_far_last looks more h = let is_left = left_whole looks in grind arith
+
+  free_far_ahead : (none : Bool) → looks_ahead (line.row t k) ≡ true → letter (line.row t k) jobs.FreeFar ≡ Some l → HoldsOn line t k b x none jobs.FreeFar l
+  free_far_ahead true looks h = free_far_spent looks h
+  free_far_ahead false looks h = ⊎_elim (λ e. free_far_more looks e h) (λ e. free_far_last looks e h) (cases_Bool (looks_ahead (line.row t (k + 1))))
+
+  free_far : letter (line.row t k) jobs.FreeFar ≡ Some l → HoldsOn line t k b x spent jobs.FreeFar l
+  free_far h = ⊎_elim (λ e. free_far_ahead spent e h) (λ e. free_far_alone e h) (cases_Bool (looks_ahead (line.row t k)))
 
   module _ (n : NextRow) (there : (line.row t k).next ≡ Some n) (after : IsStepOf line t (k + 1) (line.row t (k + 1))) where
     near2 : letter (line.row t k) jobs.Near2 ≡ Some l → HoldsOn line t k b x spent jobs.Near2 l
     unfolding HoldsOn letter holds_at after_yes ends_step
     near2 h = grind (arith, nat_tests)
-
-    far2 : letter (line.row t k) jobs.Far2 ≡ Some l → HoldsOn line t k b x spent jobs.Far2 l
-    unfolding HoldsOn letter holds_at after_yes ends_step
-    far2 h = grind (arith, nat_tests, is.next_is n there, after.ahead b x)
 
     beyond_is : line.ends t (k + 2) b x ≡ (at n.b2 n.b2_arm b x || at n.c2 n.c2_arm b x)
     beyond_is = grind (arith, is.next_is n there, after.ahead b x)
@@ -88,6 +128,12 @@ module _ (line : Line) (t k b x : ℕ) (spent : Bool) (l : Letter) (is : IsStepO
 
     ends_off : at n.b2 n.b2_arm b x ≡ true → at n.c2 n.c2_arm b x ≡ false
     ends_off h = two_boxes n.b2.0 n.b2_arm.0 n.c2.0 n.c2_arm.0 b x (grind (arith, is.next_is n there, after.far_apart)) h
+
+    far2 : letter (line.row t k) jobs.Far2 ≡ Some l → HoldsOn line t k b x spent jobs.Far2 l
+    unfolding HoldsOn letter holds_at after_yes ends_step
+    far2 h =
+        let is_whole = added (line.ends t k b x) (line.ends t (k + 1) b x) (line.ends t (k + 2) b x) (at n.b2 n.b2_arm b x) (at n.c2 n.c2_arm b x) beyond_is in
+        grind arith
 
     drop_far2 : letter (line.row t k) jobs.DropFar2 ≡ Some l → HoldsOn line t k b x spent jobs.DropFar2 l
     unfolding HoldsOn letter holds_at after_yes ends_step

@@ -1,7 +1,7 @@
 -- Laws of the job table. Only here does a proof look at a job.
 use Rattle.std.proofs.Common.{◌≡◌, ℕ, zero, suc, ◌+◌, ◌-◌, ◌==◌, Bool, true, false, cond, not, ◌&&◌, Option, Some, None, refl, sym, arith}
 use Rattle.std.specs.Prelude.{is_some, option_map}
-use Rattle.std.proofs.lemmas.Bool.{false≢true, cases_Bool}
+use Rattle.std.proofs.lemmas.Bool.{false≢true, cases_Bool, ne_eqb}
 use Rattle.rl_base.specs.declared.job.Job.{Job}
 use Rattle.rl_base.specs.declared.job.Job.TheVariants as jobs
 use Rattle.rl_words.specs.declared.mail.Letter.{Letter}
@@ -42,19 +42,19 @@ there_next (Some n) f h = (f n, refl)
 pub letter_there : (job : Job) (row : StepRow) → (names_next job ≡ true → looks_ahead row ≡ true) → is_pass job ≡ false
     → (l : Letter) × (letter row job ≡ Some l)
 unfolding letter is_pass names_next
-letter_there jobs.Near row h = (_, refl)
-letter_there jobs.Far row h = (_, refl)
-letter_there jobs.Near2 row h = there_next row.next _ (a refl)
-letter_there jobs.Far2 row h = there_next row.next _ (a refl)
-letter_there jobs.Lock row h = (_, refl)
-letter_there jobs.Pass row h = absurd (false≢true (sym h))
-letter_there jobs.Unlock row h = (_, refl)
-letter_there jobs.FreeNear row h = (_, refl)
-letter_there jobs.FreeFar row h = (_, refl)
-letter_there jobs.DropFar2 row h = there_next row.next _ (a refl)
-letter_there jobs.DropNear2 row h = there_next row.next _ (a refl)
-letter_there jobs.DropFar row h = (_, refl)
-letter_there jobs.DropNear row h = (_, refl)
+letter_there jobs.Near row a h = (_, refl)
+letter_there jobs.Far row a h = (_, refl)
+letter_there jobs.Near2 row a h = there_next row.next _ (a refl)
+letter_there jobs.Far2 row a h = there_next row.next _ (a refl)
+letter_there jobs.Lock row a h = (_, refl)
+letter_there jobs.Pass row a h = absurd (false≢true (sym h))
+letter_there jobs.Unlock row a h = (_, refl)
+letter_there jobs.FreeNear row a h = (_, refl)
+letter_there jobs.FreeFar row a h = (_, refl)
+letter_there jobs.DropFar2 row a h = there_next row.next _ (a refl)
+letter_there jobs.DropNear2 row a h = there_next row.next _ (a refl)
+letter_there jobs.DropFar row a h = (_, refl)
+letter_there jobs.DropNear row a h = (_, refl)
 
 -- no job after the reservation of the next segment, and none at the next step, has passed
 far_stands : (looks : Bool) → has_passed (cond looks jobs.Near2 jobs.Lock) ≡ false
@@ -174,8 +174,8 @@ open_next : (looks more : Bool) (step left : ℕ)
 unfolding is_open
 open_next false more step left = omega arith
 open_next true more step zero = omega arith
-open_next true true step (suc left) = omega arith
-open_next true false step (suc left) = omega arith
+open_next true true step (suc left) = let some = ne_eqb (suc left) 0 (λ z. omega arith) in rw some (omega arith)
+open_next true false step (suc left) = let some = ne_eqb (suc left) 0 (λ z. omega arith) in rw some (omega arith)
 
 -- with Yes a step is made where the open attempt ends
 pub open_heard : (row : StepRow) (more : Bool) (job : Job) (step left : ℕ) → is_pass job ≡ false

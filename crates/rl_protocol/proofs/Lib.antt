@@ -3,7 +3,6 @@ pub mod Known
 pub mod Mail
 pub mod Answers
 pub mod Asked
-mod Asked
 pub mod Points
 pub mod Passage
 pub mod Attempts
