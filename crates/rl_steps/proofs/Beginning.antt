@@ -19,7 +19,8 @@ use Rattle.rl_tables.specs.declared.table.TrainTable.{TrainTable}
 use Rattle.rl_tables.specs.declared.table.Tables.{Tables}
 use Rattle.rl_tables.specs.Kept.{IsLine}
 use Rattle.rl_tables.specs.Starts.{layout_of, starter_of, arm_holder, start_resv, start_lock, start_payload}
-use Rattle.rl_train.specs.Jobs.{is_near, is_open}
+use Rattle.rl_base.specs.Tries.{AreFewTries}
+use Rattle.rl_train.specs.Jobs.{is_near, is_open, names_next}
 use Rattle.rl_train.specs.Mind.{IsTrainMind, start_train}
 use Rattle.rl_steps.specs.Numbers.{node_at, word_at}
 use Rattle.rl_steps.specs.State.{start_word, start_mind, start_mind_of}
@@ -72,17 +73,17 @@ payload_fits tables (words.Sense t) line = omega arith
 pub start_fits : (tables : Tables) (w : ℕ) → IsLine tables → start_word tables w < 2 ^ 32
 start_fits tables w line = mapped_fits (start_payload tables) (word_at (layout_of tables) w) (λ kind. payload_fits tables kind line)
 
-start_train-fits : (tries : ℕ) (x : TrainTable) → tries ≤ 1000 → IsTrainMind x (start_train tries)
-unfolding is_near is_open
-start_train-fits tries x few = record { within = omega arith; on_route = λ e. absurd (cc); few = omega arith }
+start_train-fits : (tries : ℕ) (x : TrainTable) → AreFewTries tries → IsTrainMind x (start_train tries)
+unfolding is_near is_open names_next
+start_train-fits tries x few = record { within = omega arith; on_route = λ e. absurd (cc); ahead = λ e. absurd (cc); few = omega arith }
 
-start_mind_at : (tables : Tables) (tries : ℕ) (node : NodeKind) → tries ≤ 1000 → IsMindOf tables node (start_mind_of tries (Some node))
+start_mind_at : (tables : Tables) (tries : ℕ) (node : NodeKind) → AreFewTries tries → IsMindOf tables node (start_mind_of tries (Some node))
 start_mind_at tables tries (nodes.Train t) few = λ x is. start_train-fits tries x few
 start_mind_at tables tries (nodes.Track t) few = omega arith
 start_mind_at tables tries (nodes.Box b) few = λ x is. record { work = tt; waiting = tt }
 start_mind_at tables tries (nodes.Machine b) few = tt
 
-pub start_minds : (tables : Tables) (tries n : ℕ) (node : NodeKind) → tries ≤ 1000 → node_at (layout_of tables) n ≡ Some node
+pub start_minds : (tables : Tables) (tries n : ℕ) (node : NodeKind) → AreFewTries tries → node_at (layout_of tables) n ≡ Some node
     → IsMindOf tables node (start_mind tables tries n)
 start_minds tables tries n node few at =
     let P : Option NodeKind → Type 0 = λ o. IsMindOf tables node (start_mind_of tries o) in
