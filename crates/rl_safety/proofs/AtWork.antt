@@ -12,7 +12,10 @@ use Rattle.rl_base.specs.Layout.{word_count, word_number, HasWord}
 use Rattle.rl_record.specs.declared.event.Event.{Event}
 use Rattle.rl_record.specs.declared.event.Turn.TheVariants.{Moved}
 use Rattle.rl_words.specs.Stamps.{payload_in}
+use Rattle.rl_words.specs.declared.mail.Letter.{Letter}
+use Rattle.rl_words.specs.declared.mail.MailWord.TheVariants.{Ask}
 use Rattle.rl_words.specs.Word.{Word, PackedStep, kind_of, packed_word}
+use Rattle.rl_words.specs.Word.Word.{Mail}
 use Rattle.rl_tables.specs.declared.table.BoxTable.{BoxTable}
 use Rattle.rl_tables.specs.declared.table.Tables.{Tables}
 use Rattle.rl_tables.specs.Kept.{IsLine}
@@ -35,6 +38,7 @@ use Rattle.rl_steps.proofs.Numbering.{node_at-some, word_at-number}
 use Rattle.rl_steps.proofs.Sounding.{AreMinded}
 use Rattle.rl_protocol.specs.Agreement.{Agrees}
 use Rattle.rl_protocol.specs.AtWork.{word_for, word_at_work}
+use Rattle.rl_protocol.specs.Minds.{train}
 use Rattle.rl_protocol.specs.Sentences.{StateSays, HasLine}
 use Rattle.rl_protocol.specs.State.{State}
 use Rattle.rl_protocol.specs.TableLine.{line_of}
@@ -52,6 +56,9 @@ pub record WorkLaws : Type 0 where
       → (box_step x mind kind payload ≡ Some (new, after)) ↔ PackedStep (BoxStep x mind) kind payload new after
   pub at_work : (tables : Tables) (tries : ℕ) (s : State) (b : ℕ) (x : BoxTable) (w : Word) → IsLine tables → Agrees (line_of tables) tries s
       → slice_get tables.boxes b ≡ Some x → word_at_work b (s.boxes b).work ≡ Some (kind_of w) → StateSays s w → HasLine x (s.boxes b) w
+  pub asked : (tables : Tables) (tries : ℕ) (s : State) (t : ℕ) (l : Letter) (x : BoxTable) → IsLine tables → Agrees (line_of tables) tries s
+      → slice_get tables.boxes l.to.0 ≡ Some x → s.mail t ≡ Ask l → (s.boxes l.to.0).work ≡ Ready
+      → HasLine x (s.boxes l.to.0) (Mail (train t) (Ask l))
 
 -- the word at which a box at work looks, and that it isn't the still word
 verb_word : (x : BoxTable) (b : BoxId) (verb : Verb) → x.number ≡ b → (word_for b.0 verb ≡ verb_target x verb) × (verb_target x verb ≢ kinds.Still)
@@ -67,7 +74,7 @@ work_word lay x b (Serve t l) scan is busy = let word = verb_word x b l.verb is 
 work_word lay x b (Say t l answer) scan is busy = (refl, λ e. cc)
 
 -- a mind of a box
-box_mind : (tables : Tables) (b : BoxId) (mind : Mind) → IsMindOf tables (nodes.Box b) mind → (m : BoxMind) × (mind ≡ Box m)
+pub box_mind : (tables : Tables) (b : BoxId) (mind : Mind) → IsMindOf tables (nodes.Box b) mind → (m : BoxMind) × (mind ≡ Box m)
 box_mind tables b (Train m) is = absurd is
 box_mind tables b (Track m) is = absurd is
 box_mind tables b (Box m) is = (m, refl)

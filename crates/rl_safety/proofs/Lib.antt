@@ -11,6 +11,7 @@ pub mod Attempts
 pub mod Outcomes
 pub mod Readable
 pub mod AtWork
+pub mod AskedSteps
 pub mod Rests
 pub mod Ranges
 pub mod KeptWorlds

@@ -8,5 +8,6 @@ pub mod World
 pub mod Stepped
 pub mod Reports
 pub mod Readable
+pub mod AtWork
 pub mod Rests
 pub mod Ranges

@@ -2,6 +2,7 @@ ghost use Rattle.std.specs.Prelude.{◌≡◌, ◌↔◌, ℕ, ◌<◌, true, fa
 ghost use Rattle.rl_base.specs.Tries.{AreFewTries};
 ghost use Rattle.rl_base.specs.declared.ids.BoxId.{BoxId};
 ghost use Rattle.rl_base.specs.declared.layout.NodeKind.TheVariants as nodes;
+ghost use Rattle.rl_base.specs.declared.layout.WordKind.TheVariants as words;
 ghost use Rattle.rl_base.specs.Layout.{node_count};
 ghost use Rattle.rl_record.specs.declared.event.Event.{Event};
 ghost use Rattle.rl_record.specs.declared.event.Turn.TheVariants.{Idle, Moved, Rest};
@@ -9,8 +10,13 @@ ghost use Rattle.rl_steps.specs.Numbers.{node_at};
 ghost use Rattle.rl_steps.specs.Run.{IsRun, state};
 ghost use Rattle.rl_steps.specs.Step.{is_ready};
 ghost use Rattle.rl_steps.specs.Turn.{Drive, answer_of};
+ghost use Rattle.rl_protocol.specs.Minds.{train};
+ghost use Rattle.rl_safety.specs.AtWork.{CanStep};
 ghost use Rattle.rl_safety.specs.Readable.{AreReadable};
+ghost use Rattle.rl_safety.specs.Reading.{mail_in};
 ghost use Rattle.rl_safety.specs.Rests.{IsTrainAtRest};
+ghost use Rattle.rl_words.specs.declared.mail.Letter.{Letter};
+ghost use Rattle.rl_words.specs.declared.mail.MailWord.TheVariants.{Ask};
 ghost use Rattle.rl_tables.specs.declared.table.Tables.{Tables};
 ghost use Rattle.rl_tables.specs.Kept.{IsLine};
 ghost use Rattle.rl_tables.specs.Starts.{layout_of};
@@ -40,7 +46,7 @@ pub fn readable_words()
 }
 
 /// A box that serves a letter, or has an answer to say, makes an event in its turn, wherever it scans: a box idles only
-/// while it is ready.
+/// while it is ready. A ready one has a step on each mailbox in which it is asked.
 pub fn boxes_at_work()
     ensures moves { (tables : Tables) (tries : ℕ) (d : Drive) (n : ℕ) (b : BoxId)
         → IsLine tables → AreFewTries tries → IsRun tables tries d.events
@@ -50,6 +56,11 @@ pub fn boxes_at_work()
         → IsLine tables → AreFewTries tries → IsRun tables tries d.events
         → node_at (layout_of tables) n ≡ Some (nodes.Box b) → answer_of tables tries d n ≡ Idle word
         → is_ready ((state tables tries d.events).minds n) ≡ true }
+    ensures asked { (tables : Tables) (tries : ℕ) (events : List Event) (n t : ℕ) (l : Letter)
+        → IsLine tables → AreFewTries tries → IsRun tables tries events
+        → node_at (layout_of tables) n ≡ Some (nodes.Box l.to) → is_ready ((state tables tries events).minds n) ≡ true
+        → mail_in tables (state tables tries events) t ≡ Ask l
+        → CanStep tables (state tables tries events) n (words.Mail (train t)) }
 {
     usable_tables();
     train_steps();

@@ -14,6 +14,7 @@ use Rattle.rl_steps.specs.Step.{is_ready}
 use Rattle.rl_steps.specs.Turn.{Drive, answer_of}
 use Rattle.rl_steps.proofs.Keeping.{StepsKeep}
 use Rattle.rl_steps.proofs.Sounding.{runs_minded}
+use Rattle.rl_safety.proofs.AskedSteps.{asked_can_step}
 use Rattle.rl_safety.proofs.AtWork.{WorkLaws, busy_moves}
 use Rattle.rl_safety.proofs.Readable.{runs_size}
 use Rattle.rl_safety.proofs.work.boxes_at_work.Goals as goal
@@ -31,6 +32,7 @@ returns c =
       words = record { reads = c.words.ensures.reads; only = c.words.ensures.only };
       lines = c.box_lines.ensures.payloads;
       at_work = c.sentences_as_steps.ensures.at_work;
+      asked = c.sentences_as_steps.ensures.asked;
     } in
     let moves : (tables : Tables) (tries : ℕ) (d : Drive) (n : ℕ) (b : BoxId) → IsLine tables → AreFewTries tries → IsRun tables tries d.events
     → node_at (layout_of tables) n ≡ Some (nodes.Box b) → is_ready ((state tables tries d.events).minds n) ≡ false
@@ -43,4 +45,7 @@ returns c =
       idles = λ tables tries d n b word line few run at idles.
           ⊎_elim (λ ready. ready) (λ busy. let moved = moves tables tries d n b line few run at busy in absurd (cc (moved.1)))
           (cases_Bool (is_ready ((state tables tries d.events).minds n)));
+      asked = λ tables tries events n t l line few run at ready mail.
+          asked_can_step laws tables tries (state tables tries events) line (c.agreement.ensures tables tries events line few run)
+          (runs_minded keeps tables tries events line few run) n t l at ready mail;
     }
