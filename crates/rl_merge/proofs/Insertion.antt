@@ -28,7 +28,7 @@ pub record IsPlaced (tables : Tables) (tries : ℕ) (e : Event) (earlier all : L
 abbrev pub Placed : Tables → ℕ → Event → List Event → Type 0
 Placed tables tries e earlier = (all : List Event) × IsPlaced tables tries e earlier all
 
-order : (f e : Event) → IsBefore f e ⊎ ((e.stamp ≤ f.stamp) × (e.node.0 ≢ f.node.0 → IsBefore e f))
+pub order : (f e : Event) → IsBefore f e ⊎ ((e.stamp ≤ f.stamp) × (e.node.0 ≢ f.node.0 → IsBefore e f))
 order f e =
     elim (leb_tells e.stamp f.stamp) [
       | inr later ↦ inl (inl later.1)
@@ -42,7 +42,7 @@ order f e =
     ]
 
 -- in front of the whole run
-after_more : (e f : Event) (xs : List Event) → IsAfterAll f xs → IsBefore f e → IsAfterAll e xs
+pub after_more : (e f : Event) (xs : List Event) → IsAfterAll f xs → IsBefore f e → IsAfterAll e xs
 after_more e f [] after before = tt
 after_more e f (x ∷ xs) after before = (before_both x f e after.0 before, after_more e f xs after.1 before)
 
@@ -71,7 +71,7 @@ swapped e f h false false never = refl
 never_both_nodes : (e f : Event) (n : ℕ) → e.node.0 ≢ f.node.0 → (e.node.0 == n) ≡ true → (f.node.0 == n) ≡ true → ⊥
 never_both_nodes e f n other own its = grind (arith, nat_tests)
 
-parts_past : (e f : Event) (earlier all : List Event) (n : ℕ) → e.node.0 ≢ f.node.0 → history n all ≡ history n (e ∷ earlier)
+pub parts_past : (e f : Event) (earlier all : List Event) (n : ℕ) → e.node.0 ≢ f.node.0 → history n all ≡ history n (e ∷ earlier)
     → history n (f ∷ all) ≡ history n (e ∷ f ∷ earlier)
 parts_past e f earlier all n other parts =
     let With : List Event → List Event = λ h. cond (f.node.0 == n) (f ∷ h) h in

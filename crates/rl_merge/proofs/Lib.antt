@@ -5,3 +5,5 @@ pub mod Sorted
 pub mod Records
 pub mod Chained
 pub mod Chaining
+pub mod Merging
+pub mod Replayed

@@ -1,4 +1,5 @@
-ghost use Rattle.std.specs.Prelude.{◌≡◌, ℕ, List, Some, length, reverse, slice_get};
+ghost use Rattle.std.specs.Prelude.{◌≡◌, ℕ, ◌≤◌, List, [], length, reverse};
+ghost use Rattle.rl_base.specs.Layout.{word_count};
 ghost use Rattle.rl_base.specs.Numbers.{IsU32};
 ghost use Rattle.rl_base.specs.Tries.{AreFewTries};
 ghost use Rattle.rl_record.specs.declared.event.Event.{Event};
@@ -8,6 +9,7 @@ ghost use Rattle.rl_record.specs.Merge.{history, IsMerge};
 ghost use Rattle.rl_record.specs.Records.{Record, AreHistories, IsMergeOf};
 ghost use Rattle.rl_tables.specs.declared.table.Tables.{Tables};
 ghost use Rattle.rl_tables.specs.Kept.{IsLine};
+ghost use Rattle.rl_tables.specs.Starts.{layout_of};
 ghost use Rattle.rl_steps.specs.declared.mind.Mind.{Mind};
 ghost use Rattle.rl_steps.specs.Run.{IsRun, state};
 
@@ -45,19 +47,23 @@ pub fn merged_records()
 }
 
 /// The chain law: where each event is the step that follows its node's events before it, and found what the event
-/// before it on its word left, the merge of the histories is a run. It leads to the words and the minds that they
-/// left.
+/// before it on its word left, the histories have a merge, and it is a run. It leads to the words, the minds and the
+/// clocks that they left.
 pub fn chained_runs()
+    ensures merge { (tables : Tables) (tries nodes : ℕ) (h : ℕ → List Event)
+        → AreChained tables tries h → ((n : ℕ) → nodes ≤ n → h n ≡ []) → (merged : List Event) × IsMerge h merged }
     ensures run { (tables : Tables) (tries : ℕ) (h : ℕ → List Event) (merged : List Event)
         → AreChained tables tries h → IsMerge h merged → IsRun tables tries merged }
     ensures words { (tables : Tables) (tries : ℕ) (h : ℕ → List Event) (merged : List Event)
         (words : List ℕ) (minds : ℕ → Mind)
         → AreChained tables tries h → IsMerge h merged → AreLeft tables tries h words minds
-        → (w v : ℕ) → slice_get words w ≡ Some v → slice_get (state tables tries merged).words w ≡ Some v }
+        → length words ≡ word_count (layout_of tables) → (state tables tries merged).words ≡ words }
     ensures minds { (tables : Tables) (tries : ℕ) (h : ℕ → List Event) (merged : List Event)
         (words : List ℕ) (minds : ℕ → Mind)
         → AreChained tables tries h → IsMerge h merged → AreLeft tables tries h words minds
         → (n : ℕ) → (state tables tries merged).minds n ≡ minds n }
+    ensures clocks { (tables : Tables) (tries : ℕ) (h : ℕ → List Event) (merged : List Event)
+        → AreChained tables tries h → IsMerge h merged → (n : ℕ) → (state tables tries merged).clocks n ≡ clock_left (h n) }
 {}
 
 /// The histories of a run are chained, and the words, the minds and the clocks of its state are those that they left.

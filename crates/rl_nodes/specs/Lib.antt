@@ -1,4 +1,5 @@
 pub mod Nodes
+pub mod Rooms
 pub mod Turns
 pub mod Looks
 pub mod Laying

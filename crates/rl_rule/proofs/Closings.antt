@@ -53,7 +53,7 @@ at_most_once places n = by (nat_lt n places.handed && (places.place n == 0))
     by true = omega arith
     by false = omega arith
 
-none_past : (places : Places) (n : ℕ) → places.handed ≤ n → times_taken places n ≡ 0
+pub none_past : (places : Places) (n : ℕ) → places.handed ≤ n → times_taken places n ≡ 0
 none_past places n past =
     let not_below : nat_lt n places.handed ≡ false = grind (arith, nat_tests) in
     rw not_below refl

@@ -1,5 +1,6 @@
 -- What the rule uses of the protocol: runs are sound, a step is its owner's, and a value has one owner.
-use Rattle.std.proofs.Common.{◌≡◌, ℕ, List, length, Some}
+use Rattle.std.proofs.Common.{◌≡◌, ℕ, ◌≤◌, List, [], length, Some}
+use Rattle.rl_base.specs.Layout.{word_count}
 use Rattle.rl_base.specs.Numbers.{IsU32}
 use Rattle.rl_base.specs.Tries.{AreFewTries}
 use Rattle.rl_base.specs.declared.layout.Layout.{Layout}
@@ -42,6 +43,27 @@ pub record ChainLaws : Type 0 where
       → AreLeft tables tries (λ n. history n log) (state tables tries log).words (state tables tries log).minds
   pub clocks : (tables : Tables) (tries : ℕ) (log : List Event) → IsRun tables tries log
       → (n : ℕ) → (state tables tries log).clocks n ≡ clock_left (history n log)
+
+-- what is proved of chained histories and their merge
+pub record MergeLaws : Type 0 where
+  pub merge : (tables : Tables) (tries nodes : ℕ) (h : ℕ → List Event) → AreChained tables tries h → ((n : ℕ) → nodes ≤ n → h n ≡ [])
+      → (merged : List Event) × IsMerge h merged
+  pub run : (tables : Tables) (tries : ℕ) (h : ℕ → List Event) (merged : List Event) → AreChained tables tries h → IsMerge h merged
+      → IsRun tables tries merged
+  pub words : (tables : Tables) (tries : ℕ) (h : ℕ → List Event) (merged : List Event) (words : List ℕ) (minds : ℕ → Mind)
+      → AreChained tables tries h → IsMerge h merged → AreLeft tables tries h words minds → length words ≡ word_count (layout_of tables)
+      → (state tables tries merged).words ≡ words
+  pub minds : (tables : Tables) (tries : ℕ) (h : ℕ → List Event) (merged : List Event) (words : List ℕ) (minds : ℕ → Mind)
+      → AreChained tables tries h → IsMerge h merged → AreLeft tables tries h words minds
+      → (n : ℕ) → (state tables tries merged).minds n ≡ minds n
+  pub clocks : (tables : Tables) (tries : ℕ) (h : ℕ → List Event) (merged : List Event) → AreChained tables tries h → IsMerge h merged
+      → (n : ℕ) → (state tables tries merged).clocks n ≡ clock_left (h n)
+
+-- what a moment is read from
+pub record MomentLaws : Type 0 where
+  pub chains : ChainLaws
+  pub merges : MergeLaws
+  pub runs : RunsAreSound
 
 -- the merge of the histories of a run is a run to the same state
 abbrev pub MergesAreRuns : Type 0

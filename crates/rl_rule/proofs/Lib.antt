@@ -12,3 +12,4 @@ pub mod Crossing
 pub mod Runs
 pub mod Alone
 pub mod RuleHolds
+pub mod Moments

@@ -21,7 +21,8 @@ use Rattle.rl_rule.specs.Loads.{Tells, IsAlone, last_value, most_events}
 use Rattle.rl_rule.specs.Plays.{Sat, loads}
 use Rattle.rl_rule.specs.Ruled.{IsFresh, IsWalk, Places, KnowsNode, IsRuled}
 use Rattle.rl_rule.proofs.Lists.{set_same, get_index}
-use Rattle.rl_rule.proofs.Known.{Laws}
+use Rattle.rl_rule.proofs.Known.{Laws, MomentLaws}
+use Rattle.rl_rule.proofs.Moments.{seen_at, seen_by}
 use Rattle.rl_rule.proofs.Tellings.{told}
 use Rattle.rl_rule.proofs.Runs.{Runs}
 use Rattle.rl_rule.proofs.Alone.{alone_value}
@@ -83,16 +84,17 @@ own_value laws tables tries s ruled id view w value word knows alone =
     let here : IsAlone tables w view.walk.node.0 = subst (λ (t : Tables). IsAlone t w view.walk.node.0) knows.line alone in
     rw (knows.line, knows.walk.history) (alone_value laws tables tries ruled.log view.walk.node.0 w value runs here word)
 
-pub load_keeps : Laws → (tables : Tables) (tries slots id w : ℕ) (me : Sat) → me.0.role ≡ Node → w < word_count (layout_of tables) →
+pub load_keeps : Laws → MomentLaws → (tables : Tables) (tries slots id w : ℕ) (me : Sat) → me.0.role ≡ Node → w < word_count (layout_of tables) →
     Allows (IsRuled tables tries) slots id me w (λ n. n) (loads (step slots w 0 0 none) me)
-load_keeps laws tables tries slots id w me role within s ruled homes there small =
+load_keeps laws moments tables tries slots id w me role within s ruled homes there small =
     let value : ℕ = slice_index s.words w in
     let new : View = record me.0 { walk = loaded me.0.walk w (slice_index s.words w) } in
     let sound : IsSound tables (length ruled.log) (state tables tries ruled.log) =
     laws.runs tables tries ruled.log ruled.line ruled.few_tries
     (omega (arith, few_in_log tables ruled.log ruled.places.handed ruled.line ruled.few ruled.unborn ruled.short)) ruled.run in
     let wide : length s.words ≡ word_count (layout_of tables) = ap length ruled.words ∙ sound.size in
-    let word : slice_get (state tables tries ruled.log).words w ≡ Some (slice_index s.words w) = rw (← ruled.words) (get_index s.words w (omega arith)) in
+    let held : slice_get s.words w ≡ Some (slice_index s.words w) = get_index s.words w (omega arith) in
+    let word : slice_get (state tables tries ruled.log).words w ≡ Some (slice_index s.words w) = rw (← ruled.words) held in
     let knows : KnowsNode tables tries ruled.log ruled.places id me.0 =
     as_role tables tries ruled.log ruled.places id me.0 Node role (ruled.each id me.0 there) in
     let after : KnowsNode tables tries ruled.log ruled.places id new =
@@ -124,5 +126,7 @@ load_keeps laws tables tries slots id w me role within s ruled homes there small
         tells laws tables tries s ruled me.0.walk w (slice_index s.words w) word knows.walk,
         λ alone. own_value laws tables tries s ruled id me.0 w
             (slice_index s.words w) word knows alone,
+        seen_by tables tries me.0 w (slice_index s.words w) knows.line knows.tries_are
+            (seen_at moments tables tries s ruled id me.0 there role w (slice_index s.words w) held),
       ),
     )

@@ -1,9 +1,9 @@
 -- The rule of the rails, part by part, from the one run that is behind all views.
-use Rattle.std.proofs.Common.{◌≡◌, ◌≢◌, ℕ, ◌<◌, ◌≤◌, nat_lt, List, [], ◌∷◌, length, Option, Some, None, refl}
-use Rattle.std.proofs.Common.{sym, ap, ◌∙◌, subst, inl, inr, true, arith}
-use Rattle.std.proofs.lemmas.Bool.{cases_eq}
+use Rattle.std.proofs.Common.{◌≡◌, ◌≢◌, ℕ, zero, suc, ◌<◌, ◌≤◌, nat_lt, List, [], ◌∷◌, length, refl}
+use Rattle.std.proofs.Common.{sym, ap, ◌∙◌, subst, inl, inr, true, eq-eqb, arith}
+use Rattle.std.proofs.lemmas.Bool.{cases_eq, cases_lt, ne_eqb}
 use Rattle.std.proofs.lemmas.Bool.Decides.{nat_tests}
-use mathlib.Core.Option.{some}
+use mathlib.Core.Option.{some, some-injective, some-ne-none}
 use lib.ListN.{get_elem?}
 use Rattle.atomic_table.specs.Table.{State}
 use Rattle.rl_base.specs.Numbers.{IsU32}
@@ -16,12 +16,14 @@ use Rattle.rl_steps.specs.State.{next_stamp}
 use Rattle.rl_merge.specs.Chains.{clock_left, IsNodeChain, AreChained, AreLeft}
 use Rattle.rl_rule.specs.declared.views.Kept.{Kept}
 use Rattle.rl_rule.specs.declared.views.View.{View}
-use Rattle.rl_rule.specs.declared.views.Role.TheVariants.{Root, Node}
-use Rattle.rl_rule.specs.Ruled.{AreKept, times_taken, KnowsRoot, KnowsNode, IsNodeAt, IsRuled}
+use Rattle.rl_rule.specs.declared.views.Role.{Role}
+use Rattle.rl_rule.specs.declared.views.Role.TheVariants.{Root, Node, Spent}
+use Rattle.rl_rule.specs.Ruled.{AreKept, KnowsRoot, KnowsNode, Knows, IsNodeAt, IsRuled}
 use Rattle.rl_rule.specs.Histories.{IsHistory, sum_below}
-use Rattle.rl_rule.specs.Rule.{IsTakenIn, StandsAt, KeepsPlaces, KeepsHistories, KeepsChains, EachKept, KeepsLoads, KeepsBounds, Rule}
+use Rattle.rl_rule.specs.Rule.{places_in, places_of, KeepsRoot, KeepsPlaces, KeepsHistories, KeepsChains, EachKept, KeepsLoads, KeepsBounds, Rule}
 use Rattle.rl_rule.proofs.Lists.{in_buckets}
-use Rattle.rl_rule.proofs.Others.{as_role, few_in_log}
+use Rattle.rl_rule.proofs.Others.{as_role, few_in_log, live_not_taken}
+use Rattle.rl_rule.proofs.Closings.{none_past}
 use Rattle.rl_rule.proofs.Known.{RunsAreSound, ChainLaws}
 
 -- the history of a chained node stands in order
@@ -37,6 +39,32 @@ not_above n [] e is h = absurd h
 not_above n (f ∷ earlier) e is (inl same) = let stamp : f.stamp ≡ e.stamp = ap (λ (x : Event). x.stamp) same in omega arith
 not_above n (f ∷ earlier) e is (inr there) = let low : e.stamp ≤ clock_left earlier = not_above n earlier e is.2 there in omega (arith, is.1)
 
+-- in how many places of the views a node stands
+no_place : (n : ℕ) (views : List View) → ((seat : ℕ) (view : View) → get_elem? views seat ≡ some view → places_in n view view.role ≡ 0)
+    → places_of n views ≡ 0
+no_place n [] none = refl
+no_place n (view ∷ views) none =
+    let here : places_in n view view.role ≡ 0 = none zero view refl in
+    let rest : places_of n views ≡ 0 = no_place n views (λ seat that at. none (suc seat) that at) in
+    rw (here, rest) refl
+
+one_place : (n : ℕ) (views : List View) (seat : ℕ) (view : View) → get_elem? views seat ≡ some view → places_in n view view.role ≡ 1
+    → ((other : ℕ) (that : View) → get_elem? views other ≡ some that → other ≢ seat → places_in n that that.role ≡ 0) → places_of n views ≡ 1
+one_place n [] seat view there here others = absurd (some-ne-none view (sym there))
+one_place n (first ∷ views) zero view there here others =
+    let In : View → Type 0 = λ v. places_in n v v.role ≡ 1 in
+    let own : places_in n first first.role ≡ 1 = subst In (sym (some-injective first view there)) here in
+    let rest : places_of n views ≡ 0 = no_place n views (λ other that at. others (suc other) that at (λ e. omega arith)) in
+    rw (own, rest) refl
+one_place n (first ∷ views) (suc seat) view there here others =
+    let none : places_in n first first.role ≡ 0 = others zero first refl (λ e. omega arith) in
+    let rest : places_of n views ≡ 1 = one_place n views seat view there here
+    (λ other that at away. others (suc other) that at (λ e. away (omega arith))) in
+    rw (none, rest) refl
+
+in_role : (n : ℕ) (view : View) (role : Role) → view.role ≡ role → places_in n view view.role ≡ places_in n view role
+in_role n view role is = ap (λ (r : Role). places_in n view r) is
+
 module _ (tables : Tables) (tries : ℕ) (s : State (Unit {0}) View) (ruled : IsRuled tables tries s) where
   node_there : (seat : ℕ) (view : View) → get_elem? s.views seat ≡ some view → view.role ≡ Node → KnowsNode tables tries ruled.log ruled.places seat view
   node_there seat view there role = as_role tables tries ruled.log ruled.places seat view Node role (ruled.each seat view there)
@@ -44,44 +72,58 @@ module _ (tables : Tables) (tries : ℕ) (s : State (Unit {0}) View) (ruled : Is
   root_there : (seat : ℕ) (view : View) → get_elem? s.views seat ≡ some view → view.role ≡ Root → KnowsRoot tables tries ruled.log ruled.places seat view
   root_there seat view there role = as_role tables tries ruled.log ruled.places seat view Root role (ruled.each seat view there)
 
-  -- a node with place 0 is in the list, once
-  taken_in : (n : ℕ) → n < ruled.places.handed → ruled.places.place n ≡ 0 → IsTakenIn s.views n
-  taken_in n within place =
-      let root : KnowsRoot tables tries ruled.log ruled.places 0 ruled.root.view = root_there 0 ruled.root.view ruled.root.there ruled.root.role in
-      let below : nat_lt n ruled.places.handed ≡ true = grind (arith, nat_tests) in
-      record { seat = 0; view = ruled.root.view; there = ruled.root.there; role = ruled.root.role; once = root.taken n ∙ (rw (below, place) refl) }
+  -- a view in another seat than the node's has nothing of it
+  away_from : (n seat : ℕ) (view : View) (role : Role) → Knows tables tries ruled.log ruled.places seat view role
+      → (n < ruled.places.handed → ruled.places.place n ≢ seat) → places_in n view role ≡ 0
+  away_from n seat view Root knows away =
+      knows.taken n
+      ∙ (elim (cases_lt n ruled.places.handed) [
+        | inl within ↦ live_not_taken ruled.places n (λ zero. away within (zero ∙ sym knows.first))
+        | inr past ↦ none_past ruled.places n past
+      ])
+  away_from n seat view Node knows away =
+      let other : (view.walk.node.0 ≡ n → ⊥) = λ same.
+      away (subst (λ (k : ℕ). k < ruled.places.handed) same knows.handed) (ap ruled.places.place (sym same) ∙ knows.place) in
+      rw (ne_eqb view.walk.node.0 n other) refl
+  away_from n seat view Spent knows away = refl
 
-  stands : (n : ℕ) → n < ruled.places.handed → (place : Option ℕ) × StandsAt s.views n place
-  stands n within =
+  away_at : (n seat : ℕ) (view : View) → get_elem? s.views seat ≡ some view → (n < ruled.places.handed → ruled.places.place n ≢ seat)
+      → places_in n view view.role ≡ 0
+  away_at n seat view at away = away_from n seat view view.role (ruled.each seat view at) away
+
+  -- a node with place 0 is in the list, once; any other one is in the seat of its place
+  stands_once : (n : ℕ) → n < ruled.places.handed → places_of n s.views ≡ 1
+  stands_once n within =
       elim (cases_eq (ruled.places.place n) 0) [
-        | inl in_list ↦ (None, taken_in n within in_list)
-        | inr live ↦ (Some (ruled.places.place n), ruled.nodes n within live)
+        | inl in_list ↦ (
+            let root : KnowsRoot tables tries ruled.log ruled.places 0 ruled.root.view = root_there 0 ruled.root.view ruled.root.there ruled.root.role in
+            let below : nat_lt n ruled.places.handed ≡ true = grind (arith, nat_tests) in
+            let here : places_in n ruled.root.view Root ≡ 1 = root.taken n ∙ (rw (below, in_list) refl) in
+            one_place n s.views 0 ruled.root.view ruled.root.there (in_role n ruled.root.view Root ruled.root.role ∙ here)
+            (λ other that at away. away_at n other that at (λ handed same. away (sym same ∙ in_list))))
+        | inr live ↦ (
+            let node : IsNodeAt s.views (ruled.places.place n) n = ruled.nodes n within live in
+            let here : places_in n node.view Node ≡ 1 = rw (eq-eqb node.view.walk.node.0 n node.node) refl in
+            one_place n s.views (ruled.places.place n) node.view node.there (in_role n node.view Node node.role ∙ here)
+            (λ other that at away. away_at n other that at (λ handed same. away (sym same))))
       ]
 
-  -- where a node stands, by its place
-  node_place : (n seat : ℕ) → IsNodeAt s.views seat n → (ruled.places.place n ≡ seat) × (seat ≢ 0) × (n < ruled.places.handed)
-  node_place n seat at =
-      let knows : KnowsNode tables tries ruled.log ruled.places seat at.view = node_there seat at.view at.there at.role in
-      (ap ruled.places.place (sym at.node) ∙ knows.place, knows.later, subst (λ (k : ℕ). k < ruled.places.handed) at.node knows.handed)
+  stands_nowhere : (n : ℕ) → ruled.places.handed ≤ n → places_of n s.views ≡ 0
+  stands_nowhere n past = no_place n s.views (λ seat view at. away_at n seat view at (λ within. absurd (omega arith)))
 
-  list_place : (n : ℕ) → IsTakenIn s.views n → (ruled.places.place n ≡ 0) × (n < ruled.places.handed)
-  list_place n taken =
-      let root : KnowsRoot tables tries ruled.log ruled.places taken.seat taken.view = root_there taken.seat taken.view taken.there taken.role in
-      let once : times_taken ruled.places n ≡ 1 = sym (root.taken n) ∙ taken.once in
-      (grind (arith, nat_tests), grind (arith, nat_tests))
-
-  one_place : (n : ℕ) (place other : Option ℕ) → StandsAt s.views n place → StandsAt s.views n other → place ≡ other
-  one_place n (Some a) (Some b) at there = ap Some (sym (node_place n a at).0 ∙ (node_place n b there).0)
-  one_place n (Some a) None at there = absurd ((node_place n a at).1 (sym (node_place n a at).0 ∙ (list_place n there).0))
-  one_place n None (Some b) at there = absurd ((node_place n b there).1 (sym (node_place n b there).0 ∙ (list_place n at).0))
-  one_place n None None at there = refl
-
-  standing_handed : (n : ℕ) (place : Option ℕ) → StandsAt s.views n place → n < ruled.places.handed
-  standing_handed n (Some a) at = (node_place n a at).2
-  standing_handed n None at = (list_place n at).1
+  root : KeepsRoot ruled.places.handed s.views
+  root =
+      record {
+        seat = 0;
+        view = ruled.root.view;
+        there = ruled.root.there;
+        role = ruled.root.role;
+        knows = (root_there 0 ruled.root.view ruled.root.there ruled.root.role).handed;
+        one = λ other that at role. (root_there other that at role).first;
+      }
 
   places : KeepsPlaces ruled.places.handed (λ n. history n ruled.log) s.views
-  places = record { stands = stands; one = one_place; handed_one = standing_handed; unborn = ruled.unborn }
+  places = record { root = root; one = stands_once; none = stands_nowhere; unborn = ruled.unborn }
 
   room : IsU32 (length ruled.log)
   room = omega (arith, few_in_log tables ruled.log ruled.places.handed ruled.line ruled.few ruled.unborn ruled.short)

@@ -1,11 +1,12 @@
 -- The step of a node keeps the rule: its event is one more of the log.
-use Rattle.std.proofs.Common.{◌≡◌, ◌≢◌, ℕ, suc, ◌<◌, ◌≤◌, List, [], ◌∷◌, length, slice_get, Option, Some}
+use Rattle.std.proofs.Common.{◌≡◌, ◌≢◌, ℕ, suc, ◌<◌, ◌≤◌, List, [], ◌∷◌, length, slice_get, slice_set, Option, Some}
 use Rattle.std.proofs.Common.{None, refl, sym, ap, ◌∙◌, subst, inl, inr, ⊎_elim, arith}
 use Rattle.std.proofs.lemmas.Bool.{cases_eq}
 use mathlib.Core.Option.{some, none}
 use lib.ListN.{get_elem?}
 use Rattle.atomic_table.specs.Table.{State, step, Allows, keeps}
-use Rattle.atomic_table.proofs.Lists.{at_set}
+use Rattle.atomic_table.specs.Table as table
+use Rattle.atomic_table.proofs.Lists.{at_set, set_here}
 use Rattle.rl_base.specs.declared.limits.TheConstants.{MAX_EVENTS}
 use Rattle.rl_words.specs.Owner.{Owns}
 use Rattle.rl_words.specs.Stamps.{stamp_in, payload_in}
@@ -25,9 +26,13 @@ use Rattle.rl_rule.specs.declared.views.Role.TheVariants.{Node}
 use Rattle.rl_rule.specs.Views.{event_by}
 use Rattle.rl_rule.specs.Views as views
 use Rattle.rl_rule.specs.Loads.{most_events}
+use Rattle.rl_rule.specs.Moments.{IsSeen}
 use Rattle.rl_rule.specs.Plays.{Sat, IsStep, steps}
 use Rattle.rl_rule.specs.Ruled.{IsWalk, Places, KnowsNode, IsRuled}
-use Rattle.rl_rule.proofs.Known.{Laws}
+use Rattle.rl_steps.proofs.Options.{get_set_same}
+use Rattle.rl_rule.proofs.Known.{Laws, MomentLaws}
+use Rattle.rl_rule.proofs.Lists.{at_within}
+use Rattle.rl_rule.proofs.Moments.{seen_at, seen_by}
 use Rattle.rl_rule.proofs.Histories.{history_own, history_other}
 use Rattle.rl_merge.proofs.Exchange.{put_same}
 use Rattle.rl_rule.proofs.Others.{few_in_log, as_role, from_role, as_view, root_kept, node_kept, other_knows}
@@ -128,14 +133,21 @@ same_step view load other payload payload2 mind mind2 a b =
     second : (p q : ℕ) (m k : Mind) → ◌≡◌ {A = Option (ℕ × Mind)} (Some (p, m)) (Some (q, k)) → m ≡ k
     second p q m k e = let pair : ◌≡◌ {A = ℕ × Mind} (p, m) (q, k) = cc in ap (λ (r : ℕ × Mind). r.1) pair
 
+-- what is seen after the step, of the walk, the word and the event
+abbrev Sees : Sat → Load → ℕ → Mind → Type 0
+Sees me load payload mind =
+    IsSeen me.0.line me.0.tries (views.stepped me.0.walk (event_by me.0.walk load payload) mind) load.word.0 (event_by me.0.walk load payload).now
+
 tells : (slots : ℕ) (me : Sat) (load : Load) (payload new : ℕ) (mind : Mind) → IsStep me.0.line me.0.walk load payload mind
-    → (event_by me.0.walk load payload).stamp ≤ most_events
+    → (event_by me.0.walk load payload).stamp ≤ most_events → Sees me load payload mind
     → steps (step slots load.word.0 new 0 none) me new (record me.0 { walk = views.stepped me.0.walk (event_by me.0.walk load payload) mind }, me.1)
-tells slots me load payload new mind is few other payload2 mind2 also =
+tells slots me load payload new mind is few seen other payload2 mind2 also =
     let one : IsOne load other payload payload2 mind mind2 = same_step me.0 load other payload payload2 mind mind2 is also in (
       rw (one.loads_are, one.payloads_are, one.minds_are) refl,
       subst (λ (l : Load). (event_by me.0.walk l payload2).stamp ≤ most_events) one.loads_are
           (subst (λ (p : ℕ). (event_by me.0.walk load p).stamp ≤ most_events) one.payloads_are few),
+      subst (λ (l : Load). Sees me l payload2 mind2) one.loads_are
+          (subst (λ (p : ℕ). Sees me load p mind2) one.payloads_are (subst (λ (m : Mind). Sees me load payload m) one.minds_are seen)),
     )
 
 short_after : (log : List Event) (e : Event) (n : ℕ) (mine : List Event) → mine ≡ history e.node.0 log → length mine < MAX_EVENTS → ((m : ℕ) →
@@ -149,10 +161,26 @@ short_after log e n mine is room short =
       | inr other ↦ rw (history_other n e log other) (short n)
     ]
 
-pub step_keeps : Laws → (tables : Tables) (tries slots id new : ℕ) (me : Sat) (load : Load) (payload : ℕ) (mind : Mind) → me.0.role ≡ Node →
+-- the word and the view after the step, at that moment
+sees : MomentLaws → (tables : Tables) (tries id : ℕ) (me : Sat) (load : Load) (payload new : ℕ) (mind : Mind) (s : State (Unit {0}) View)
+    → get_elem? s.views id ≡ some me.0 → me.0.role ≡ Node → me.0.line ≡ tables → me.0.tries ≡ tries → slice_get s.words load.word.0 ≡ Some load.value
+    → new ≡ (event_by me.0.walk load payload).now
+    → IsRuled tables tries (table.stepped s load.word.0 new id me.1 (record me.0 { walk = views.stepped me.0.walk (event_by me.0.walk load payload) mind }) keeps)
+    → Sees me load payload mind
+sees laws tables tries id me load payload new mind s there role line tries_are word now ruled =
+    let view : View = record me.0 { walk = views.stepped me.0.walk (event_by me.0.walk load payload) mind } in
+    let here : slice_get (slice_set s.words load.word.0 new) load.word.0 ≡ Some new = get_set_same s.words load.word.0 load.value new word in
+    let at : slice_get (slice_set s.words load.word.0 new) load.word.0 ≡ Some (event_by me.0.walk load payload).now =
+    here ∙ ap (λ (k : ℕ). Some k) now in
+    seen_by tables tries (record me.0 { walk = views.stepped me.0.walk (event_by me.0.walk load payload) mind }) load.word.0
+    (event_by me.0.walk load payload).now line tries_are
+    (seen_at laws tables tries (table.stepped s load.word.0 new id me.1 view keeps) ruled id view
+    (set_here s.views id view (at_within s.views id me.0 there)) role load.word.0 (event_by me.0.walk load payload).now at)
+
+pub step_keeps : Laws → MomentLaws → (tables : Tables) (tries slots id new : ℕ) (me : Sat) (load : Load) (payload : ℕ) (mind : Mind) → me.0.role ≡ Node →
     IsStep me.0.line me.0.walk load payload mind → length me.0.walk.history < MAX_EVENTS → new ≡ (event_by me.0.walk load payload).now →
     Allows (IsRuled tables tries) slots id me load.word.0 (λ _. new) (λ _. steps (step slots load.word.0 new 0 none) me new)
-step_keeps laws tables tries slots id new me load payload mind role is room now s ruled homes there small =
+step_keeps laws moments tables tries slots id new me load payload mind role is room now s ruled homes there small =
     let e : Event = event_by me.0.walk load payload in
     let view : View = record me.0 { walk = views.stepped me.0.walk (event_by me.0.walk load payload) mind } in
     let knows : KnowsNode tables tries ruled.log ruled.places id me.0 =
@@ -164,29 +192,32 @@ step_keeps laws tables tries slots id new me load payload mind role is room now 
     λ n. short_after ruled.log e n me.0.walk.history knows.walk.history room ruled.short in
     let unborn : (n : ℕ) → ruled.places.handed ≤ n
     → history n (e ∷ ruled.log) ≡ [] = λ n past. history_other n e ruled.log (λ same. omega (arith, knows.handed)) ∙ ruled.unborn n past in
-    let few : length (e ∷ ruled.log) ≤ most_events = few_in_log tables (e ∷ ruled.log) ruled.places.handed ruled.line ruled.few unborn short in (
+    let few : length (e ∷ ruled.log) ≤ most_events = few_in_log tables (e ∷ ruled.log) ruled.places.handed ruled.line ruled.few unborn short in
+    let then : IsRuled tables tries (table.stepped s load.word.0 new id me.1 view keeps) =
+    record {
+      line = ruled.line;
+      few_tries = ruled.few_tries;
+      log = e ∷ ruled.log;
+      run = (ruled.run, move.fits);
+      words = rw (ruled.words, now) refl;
+      places = ruled.places;
+      few = ruled.few;
+      unborn = unborn;
+      short = short;
+      root = root_kept s.views id view knows.later ruled.root;
+      nodes = λ n handed live. node_kept s.views id (ruled.places.place n) n me.0 view there role refl (ruled.nodes n handed live);
+      each = λ seat other at.
+          ⊎_elim
+          (λ (t : (seat ≡ id) × (view ≡ other)). as_view tables tries (e ∷ ruled.log) ruled.places id seat other view t.0 t.1
+          (from_role tables tries (e ∷ ruled.log) ruled.places id view Node role after))
+          (λ (t : (seat ≢ id) × (get_elem? s.views seat ≡ some other)). other_knows laws.owners tables tries ruled.log ruled.places id seat e other other.role
+          move.word move.owned knows.place knows.later t.0 (ruled.each seat other t.1))
+          (at_set s.views id seat view other at);
+    } in (
       view,
       keeps,
       tt,
-      record {
-        line = ruled.line;
-        few_tries = ruled.few_tries;
-        log = e ∷ ruled.log;
-        run = (ruled.run, move.fits);
-        words = rw (ruled.words, now) refl;
-        places = ruled.places;
-        few = ruled.few;
-        unborn = unborn;
-        short = short;
-        root = root_kept s.views id view knows.later ruled.root;
-        nodes = λ n handed live. node_kept s.views id (ruled.places.place n) n me.0 view there role refl (ruled.nodes n handed live);
-        each = λ seat other at.
-            ⊎_elim
-            (λ (t : (seat ≡ id) × (view ≡ other)). as_view tables tries (e ∷ ruled.log) ruled.places id seat other view t.0 t.1
-            (from_role tables tries (e ∷ ruled.log) ruled.places id view Node role after))
-            (λ (t : (seat ≢ id) × (get_elem? s.views seat ≡ some other)). other_knows laws.owners tables tries ruled.log ruled.places id seat e other other.role
-            move.word move.owned knows.place knows.later t.0 (ruled.each seat other t.1))
-            (at_set s.views id seat view other at);
-      },
-      tells slots me load payload new mind is (omega (arith, move.stamp)),
+      then,
+      tells slots me load payload new mind is (omega (arith, move.stamp))
+          (sees moments tables tries id me load payload new mind s there role knows.line knows.tries_are (rw ruled.words move.word) now then),
     )

@@ -4,5 +4,6 @@ pub mod Plays
 pub mod Ruled
 pub mod Histories
 pub mod Rule
+pub mod Moments
 pub mod Seats
 pub mod Closing

@@ -1,6 +1,6 @@
 -- The rule of the rails as it reads from the words and the views alone, in five parts: places, histories, chains, fresh
 -- loads and bounds. Histories are newest first.
-use Rattle.std.specs.Prelude.{◌≡◌, ℕ, ◌<◌, ◌≤◌, List, [], ◌∷◌, length, slice_get, Contains, Option, Some, None}
+use Rattle.std.specs.Prelude.{◌≡◌, ℕ, ◌+◌, ◌<◌, ◌≤◌, ◌==◌, List, [], ◌∷◌, length, slice_get, Contains, Some, if◌then◌else◌}
 use mathlib.Core.Option.{some}
 use lib.ListN.{get_elem?}
 use Rattle.rl_base.specs.declared.limits.TheConstants.{MAX_EVENTS}
@@ -13,29 +13,38 @@ use Rattle.rl_tables.specs.Starts.{layout_of}
 use Rattle.rl_merge.specs.Chains.{mind_left, clock_left, AreChained, AreLeft}
 use Rattle.rl_rule.specs.declared.views.Load.{Load}
 use Rattle.rl_rule.specs.declared.views.Kept.{Kept}
-use Rattle.rl_rule.specs.declared.views.Role.TheVariants.{Root, Node}
+use Rattle.rl_rule.specs.declared.views.Role.{Role}
+use Rattle.rl_rule.specs.declared.views.Role.TheVariants.{Root, Node, Spent}
 use Rattle.rl_rule.specs.declared.views.View.{View}
-use Rattle.rl_rule.specs.Ruled.{times, IsNodeAt}
+use Rattle.rl_rule.specs.Ruled.{times}
 use Rattle.rl_rule.specs.Histories.{IsHistory, sum_below}
 
--- the list of the rails has the node, once
-pub record IsTakenIn (views : List View) (n : ℕ) : Type 0 where
+-- in how many places of this view node n stands: it is the node's own seat, or its list has the node, so often
+abbrev pub places_in : ℕ → View → Role → ℕ
+places_in n view Root = times n view.taken
+places_in n view Node = if view.walk.node.0 == n then 1 else 0
+places_in n view Spent = 0
+
+-- in how many places node n stands
+abbrev pub places_of : ℕ → List View → ℕ
+places_of n [] = 0
+places_of n (view ∷ views) = places_in n view view.role + places_of n views
+
+-- the rails' own view, which knows how many nodes were handed a seat. No other seat has one
+pub record KeepsRoot (handed : ℕ) (views : List View) : Type 0 where
   pub seat : ℕ
   pub view : View
   pub there : get_elem? views seat ≡ some view
   pub role : view.role ≡ Root
-  pub once : times n view.taken ≡ 1
+  pub knows : view.handed ≡ handed
+  pub one : (other : ℕ) (that : View) → get_elem? views other ≡ some that → that.role ≡ Root → other ≡ seat
 
--- a node stands in a seat of its own, or in the list of the rails
-abbrev pub StandsAt : List View → ℕ → Option ℕ → Type 0
-StandsAt views n (Some seat) = IsNodeAt views seat n
-StandsAt views n None = IsTakenIn views n
-
--- places: each node that was handed a seat stands in exactly one place, and no other node has a history
+-- places: each node that was handed a seat stands in exactly one place, a seat of its own or an entry of the list of the
+-- rails. Every other node stands in none, and has no history
 pub record KeepsPlaces (handed : ℕ) (histories : ℕ → List Event) (views : List View) : Type 0 where
-  pub stands : (n : ℕ) → n < handed → (place : Option ℕ) × StandsAt views n place
-  pub one : (n : ℕ) (place other : Option ℕ) → StandsAt views n place → StandsAt views n other → place ≡ other
-  pub handed_one : (n : ℕ) (place : Option ℕ) → StandsAt views n place → n < handed
+  pub root : KeepsRoot handed views
+  pub one : (n : ℕ) → n < handed → places_of n views ≡ 1
+  pub none : (n : ℕ) → handed ≤ n → places_of n views ≡ 0
   pub unborn : (n : ℕ) → handed ≤ n → histories n ≡ []
 
 -- histories: the stamps rise, every event is the node's; a node knows its history, and its clock is the last stamp

@@ -29,12 +29,15 @@ pub record IsSameRails (old new : Rails) : Type 0 where
   pub line : rails_line new ≡ rails_line old
   pub tries : rails_tries new ≡ rails_tries old
 
--- whose seat it is, its line, and what its node knows
+-- whose seat it is, its line and the tries of its trains, and what its node knows
 abbrev pub seat_id : NodeSeat → TableId
 seat_id seat = seat.seat.table_id
 
 abbrev pub seat_line : NodeSeat → Tables
 seat_line seat = seat.seat.me.0.line
+
+abbrev pub seat_tries : NodeSeat → ℕ
+seat_tries seat = seat.seat.me.0.tries
 
 abbrev pub walk_of : NodeSeat → Walk
 walk_of seat = seat.seat.me.0.walk

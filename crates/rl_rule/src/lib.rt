@@ -13,7 +13,7 @@ pub mod rule;
 pub mod seats;
 pub mod views;
 
-pub use laws::{alone_with_reservations, rule_of_rails};
+pub use laws::{alone_with_reservations, moments_of_rule, rule_of_rails};
 pub use rails::{Rails, Words};
 pub use seats::NodeSeat;
 pub use views::{Kept, Load, Walk};

@@ -11,7 +11,7 @@ use crate::seats::NodeSeat;
 use crate::views::Load;
 use atomic_table::{Closed, Table};
 use rl_base::{NoMemory, NodeNo, Sequence, WordNo};
-use rl_merge::merged_runs;
+use rl_merge::{chained_runs, chains_of_runs, merged_runs};
 use rl_record::Event;
 use rl_steps::{Mind, next_stamp, sound_runs, start_words, steps_of_owners};
 use rl_tables::Line;
@@ -53,7 +53,8 @@ impl Rails {
     ghost use Rattle.rl_rule.specs.Plays.{IsStep};
     ghost use Rattle.rl_rule.specs.Closing.{kept_history, IsReplay};
     ghost use Rattle.rl_rule.specs.Seats.{rails_id, rails_line, rails_tries, handed, taken, IsSameRails};
-    ghost use Rattle.rl_rule.specs.Seats.{seat_id, seat_line, walk_of};
+    ghost use Rattle.rl_rule.specs.Seats.{seat_id, seat_line, seat_tries, walk_of};
+    ghost use Rattle.rl_rule.specs.Moments.{IsSeen};
 
     /// The words at the start, in one table. The room for the closing words is taken here.
     pub fn lay(alloc: Global, line: &Line, tries: u32) -> Result<Rails, NoMemory>
@@ -83,6 +84,7 @@ impl Rails {
         ensures taken { taken self.new ≡ taken self.old }
         ensures own { seat_id result ≡ rails_id self.old }
         ensures line { seat_line result ≡ rails_line self.old }
+        ensures tries { seat_tries result ≡ rails_tries self.old }
         ensures walk { walk_of result ≡ start_walk (rails_line self.old) (rails_tries self.old) node.0 }
     {
         let table = &self.table;
@@ -95,17 +97,22 @@ impl Rails {
         }
     }
 
-    /// The whole word as it stands: one atomic load, which never waits.
+    /// The whole word as it stands: one atomic load, which never waits. At that moment the words and the minds of all
+    /// nodes are those of the replay of the merge of what the nodes have done so far.
     pub fn load(&self, seat: &mut NodeSeat, w: WordNo) -> u64
         requires own { seat_id seat.old ≡ rails_id self.now }
         requires there { w.0 < word_count (layout_of (rails_line self.now)) }
         ensures own { seat_id seat.new ≡ seat_id seat.old }
         ensures line { seat_line seat.new ≡ seat_line seat.old }
+        ensures tries { seat_tries seat.new ≡ seat_tries seat.old }
         ensures walk { walk_of seat.new ≡ loaded (walk_of seat.old) w.0 result }
         ensures tells { Tells (walk_of seat.old).history w.0 result }
         ensures alone { IsAlone (seat_line seat.old) w.0 (walk_of seat.old).node.0
             → result ≡ last_value (seat_line seat.old) (walk_of seat.old).history w.0 }
+        ensures moment { IsSeen (seat_line seat.old) (seat_tries seat.old) (walk_of seat.old) w.0 result }
     {
+        chains_of_runs();
+        chained_runs();
         sound_runs();
         steps_of_owners();
         one_owner();
@@ -118,17 +125,21 @@ impl Rails {
     }
 
     /// The step of the node on the word that it loaded last: one atomic store, which always succeeds, since nobody
-    /// else may change the word at that value.
+    /// else may change the word at that value. The moment after it is as `load` has it.
     pub fn step(&self, seat: &mut NodeSeat, now: u32, mind: Mind) -> Event
         requires own { seat_id seat.old ≡ rails_id self.now }
         requires step { (load : Load) × IsStep (seat_line seat.old) (walk_of seat.old) load now mind }
         requires room { length (walk_of seat.old).history < MAX_EVENTS }
         ensures own { seat_id seat.new ≡ seat_id seat.old }
         ensures line { seat_line seat.new ≡ seat_line seat.old }
+        ensures tries { seat_tries seat.new ≡ seat_tries seat.old }
         ensures event { (load : Load) → (walk_of seat.old).load ≡ Some load
             → result ≡ event_by (walk_of seat.old) load now }
         ensures walk { walk_of seat.new ≡ stepped (walk_of seat.old) result mind }
+        ensures moment { IsSeen (seat_line seat.old) (seat_tries seat.old) (walk_of seat.new) result.word.0 result.now }
     {
+        chains_of_runs();
+        chained_runs();
         sound_runs();
         steps_of_owners();
         one_owner();

@@ -1,4 +1,5 @@
 ghost use Rattle.std.specs.Prelude.{◌≡◌, ℕ, ◌-◌, ◌<◌, ◌≤◌, All, length};
+ghost use Rattle.rl_runner.specs.Groups.{group_size};
 ghost use Rattle.rl_runner.specs.Turns.{HasTurned, EachTurned};
 
 use crate::abreast::Abreast;
@@ -49,6 +50,17 @@ fn work<T: Turner, G: Gate>(group: &mut [T], gate: &G, round: u32, abreast: &Abr
     }
 }
 
+/// How many nodes the group of a worker has: they are shared out among the workers, rounded up. The last group may have
+/// fewer.
+fn group_size(nodes: usize, workers: u32) -> usize
+    requires some { 0 < nodes }
+    requires workers { 1 ≤ workers }
+    ensures size { result ≡ group_size nodes workers }
+    ensures some { 1 ≤ result }
+{
+    nodes.div_ceil(min(workers as usize, nodes))
+}
+
 /// Gives each node `round` turns, by at most so many workers: each has a group of neighbours, and goes through it
 /// round after round.
 pub fn rounds<R: Threads + Sync, T: Turner, G: Gate>(
@@ -63,8 +75,7 @@ pub fn rounds<R: Threads + Sync, T: Turner, G: Gate>(
     requires ready { All (T.ready round) nodes.old }
     ensures { EachTurned T.number T.turns T.home round nodes.old nodes.new }
 {
-    let groups = min(workers as usize, nodes.len());
-    let size = nodes.len().div_ceil(groups);
+    let size = group_size(nodes.len(), workers);
     let abreast = Abreast::new(nodes.len().div_ceil(size));
     let worker = |_start: usize, group: &mut [T]|
         requires { All (T.ready round) group.now }

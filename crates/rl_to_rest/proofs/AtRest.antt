@@ -4,7 +4,6 @@ use Rattle.std.proofs.Common.{[], length, slice_get, Some, refl, sym, ap, ◌∙
 use Rattle.std.proofs.lemmas.Bool.Decides.{nat_tests}
 use Rattle.std.proofs.lemmas.Option.{slice_get_past}
 use Rattle.rl_base.specs.declared.layout.NodeKind.TheVariants as nodes
-use Rattle.rl_core.specs.Reports.{AreMindsAfter}
 use Rattle.rl_train.specs.Jobs.{is_near}
 use Rattle.rl_protocol.specs.Minds.{at_rest as line_at_rest}
 use Rattle.rl_protocol.specs.Rest.{AllAtRest}

@@ -1,6 +1,7 @@
 pub mod AtRest
 pub mod Crossing
 pub mod EndRests
+pub mod Granting
 pub mod Parted
 pub mod RailsRun
 pub mod Reported

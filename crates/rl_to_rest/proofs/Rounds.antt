@@ -26,6 +26,10 @@ still_after turns old topped new room rounds long each longer turned =
       nodes = λ rails limit were. rounds rails limit turns topped new longer turned (room rails limit old topped long each were);
     }
 
+-- also where the round is given up
+pub still_topped : (old topped : List Node) → KeptWithRoom → length topped ≡ length old → AreToppedUp old topped → StillNodes old topped
+still_topped old topped room long each = record { all_here = long; nodes = λ rails limit were. room rails limit old topped long each were }
+
 still_longer : (a b c : List Node) → StillNodes a b → StillNodes b c → StillNodes a c
 still_longer a b c first then_on =
     record { all_here = then_on.all_here ∙ first.all_here; nodes = λ rails limit were. then_on.nodes rails limit (first.nodes rails limit were) }

@@ -1,5 +1,5 @@
 -- The events of a run: how many there are, on which words they are, and which moves they have.
-use Rattle.std.proofs.Common.{ℕ, zero, suc, ◌+◌, ◌*◌, ◌<◌, ◌≤◌, List, [], ◌∷◌}
+use Rattle.std.proofs.Common.{ℕ, zero, suc, ◌*◌, ◌<◌, ◌≤◌, List, [], ◌∷◌}
 use Rattle.std.proofs.Common.{◌++◌, length, slice_get, sym, subst, arith}
 use Rattle.std.specs.Prelude.{All, reverse, option_map, slice_index_or}
 use Rattle.std.proofs.lemmas.List.{reverse-append, reverse-reverse, length-reverse}
@@ -71,11 +71,11 @@ on_the_line tables tries events sound line few short run = λ k d lt.
     all_on n events k d (subst (λ (l : List Event). AreOn n l) (reverse-reverse events) on) lt
 
 -- as many trains as a line may have, with as many attempts as each may have
-most_attempts : (tables : Tables) (tries : ℕ) → IsLine tables → AreFewTries tries → length tables.trains * tries ≤ MAX_TRAINS * MAX_TRIES
-most_attempts tables tries line few = mul-le (length tables.trains) tries MAX_TRAINS MAX_TRIES line.few_trains few
+pub run_attempts : (tables : Tables) (tries : ℕ) → IsLine tables → AreFewTries tries → length tables.trains * tries ≤ MAX_TRAINS * MAX_TRIES
+run_attempts tables tries line few = mul-le (length tables.trains) tries MAX_TRAINS MAX_TRIES line.few_trains few
 
 -- a run has few events
 pub few_events : (tables : Tables) (tries : ℕ) (events : List Event) → IsLine tables → AreFewTries tries
     → attempts_of tables tries events ≤ length tables.trains * tries → length events ≤ MAX_ATTEMPT_EVENTS * attempts_of tables tries events
     → IsU32 (length events)
-few_events tables tries events line few opened made = omega (arith, most_attempts tables tries line few)
+few_events tables tries events line few opened made = omega (arith, run_attempts tables tries line few)

@@ -1,3 +1,4 @@
 pub mod Going
+pub mod Rounds
 pub mod Starts
 pub mod ToRest

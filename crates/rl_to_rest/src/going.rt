@@ -1,7 +1,8 @@
-ghost use Rattle.std.specs.Prelude.{◌≡◌, ◌<◌, ◌≤◌, true, All, length, OnOk};
+ghost use Rattle.std.specs.Prelude.{◌≡◌, ◌<◌, ◌≤◌, true, All, length, IfOk, OnOk};
 ghost use Rattle.std.specs.Bool.{OnTrue};
-ghost use Rattle.rl_nodes.specs.Nodes.{rests};
+ghost use Rattle.rl_nodes.specs.Nodes.{rests, IsReady, AreToppedUp};
 ghost use Rattle.rl_to_rest.specs.Going.{StillNodes};
+ghost use Rattle.rl_to_rest.specs.Rounds.{HaveRecords, IsGranted, HaveGoneRound};
 
 use rl_base::NoMemory;
 use rl_nodes::{Nodes, RunNode, kept_nodes, top_up_all, topped_up_nodes};
@@ -10,7 +11,24 @@ use rl_runner::{Turner, rounds};
 use std::sync::Wait;
 use std::thread::Threads;
 
-/// Takes the room for a round of so many turns of each node, and gives each its turns.
+/// Takes room for so many turns of each node, or for half of them where memory is refused, or for half of that and so on,
+/// down to one. How many there is room for.
+fn granted(nodes: &mut [RunNode<'_>], turns: u32) -> Result<u32, NoMemory>
+    ensures granted { IfOk result (IsGranted turns) }
+    ensures ready { IfOk result (λ n. All (IsReady n) nodes.new) }
+    ensures kept { AreToppedUp nodes.old nodes.new }
+{
+    let mut asked = turns;
+    while asked != 0 {
+        match top_up_all(nodes, asked) {
+            Ok(()) => return Ok(asked),
+            Err(NoMemory) => asked /= 2,
+        }
+    }
+    Err(NoMemory)
+}
+
+/// Takes the room for a round of so many turns of each node, or of as many as are granted, and gives each its turns.
 fn go_round<R: Threads + Sync, G: Gate>(
     rt: &R,
     nodes: &mut [RunNode<'_>],
@@ -20,13 +38,15 @@ fn go_round<R: Threads + Sync, G: Gate>(
 ) -> Result<(), NoMemory>
     requires some { 0 < length nodes.old }
     requires workers { 1 ≤ workers }
-    ensures { OnOk result (StillNodes nodes.old nodes.new) }
+    requires turns { 1 ≤ turns }
+    ensures turned { OnOk result (HaveGoneRound turns nodes.old nodes.new) }
+    ensures kept { StillNodes nodes.old nodes.new }
 {
-    top_up_all(nodes, turns)?;
     // The nodes stay the same, for the proof.
     topped_up_nodes();
     kept_nodes();
-    rounds(rt, nodes, gate, turns, workers);
+    let round = granted(nodes, turns)?;
+    rounds(rt, nodes, gate, round, workers);
     Ok(())
 }
 
@@ -37,7 +57,8 @@ fn all_rest(nodes: &[RunNode<'_>]) -> bool
     nodes.iter().all(|node| node.at_rest())
 }
 
-/// Gives the nodes round after round, until every train rests. It may go on for ever.
+/// Gives the nodes round after round, of so many turns each or of as many as are granted, until every train rests. It may
+/// go on for ever, but not for want of turns or of places in a record.
 pub fn go_to_rest<R: Threads + Wait + Sync, G: Gate>(
     rt: &R,
     nodes: &mut Nodes<'_>,
@@ -47,7 +68,9 @@ pub fn go_to_rest<R: Threads + Wait + Sync, G: Gate>(
 ) -> Result<(), NoMemory>
     requires some { 0 < length nodes.old }
     requires workers { 1 ≤ workers }
-    ensures kept { OnOk result (StillNodes nodes.old nodes.new) }
+    requires turns { 1 ≤ turns }
+    requires records { HaveRecords nodes.old }
+    ensures kept { StillNodes nodes.old nodes.new }
     ensures rest { OnOk result (All (λ node. rests node ≡ true) nodes.new) }
 {
     for _ in rt.forever() {

@@ -52,8 +52,11 @@ fn run_to_rest<R: Threads + Wait + Sync, G: Gate>(
     requires some { 0 < node_count (layout_of line.now) }
     requires seats { AreSeatsOf rails.now seats }
     requires workers { 1 ≤ pace.workers }
+    requires round { 1 ≤ pace.round }
     ensures { IfOk result (ArePartsAtRest rails.now) }
 {
+    // How many trains there are at most, for the proof.
+    let _layout = line.layout();
     let mut nodes = lay_nodes(alloc, rails, line, seats, tries, MAX_EVENTS as u32)?;
     go_to_rest(rt, &mut nodes, gate, pace.round, pace.workers)?;
     parts_at_rest();
@@ -72,6 +75,7 @@ fn report_on_rails<R: Threads + Wait + Sync, G: Gate>(
     requires few_tries { AreFewTries tries }
     requires some { 0 < length line.now.trains }
     requires workers { 1 ≤ pace.workers }
+    requires round { 1 ≤ pace.round }
     ensures { IfOk result (IsReportToRest line.now tries) }
 {
     let mut rails = Rails::lay(alloc, line, tries)?;
@@ -103,6 +107,7 @@ pub fn report<R: Threads + Wait + Sync, G: Gate>(
     requires some_tries { 1 ≤ tries }
     requires few_tries { AreFewTries tries }
     requires workers { 1 ≤ pace.workers }
+    requires round { 1 ≤ pace.round }
     // It is the report of what the nodes did, which is a run to rest.
     ensures to_rest { IfOk result (IsReportToRest line.now tries) }
     ensures ended { IfOk result (λ r. AreEnded r.outcomes) }
