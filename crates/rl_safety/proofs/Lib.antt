@@ -14,3 +14,4 @@ pub mod AtWork
 pub mod Rests
 pub mod Ranges
 pub mod KeptWorlds
+pub mod Newest

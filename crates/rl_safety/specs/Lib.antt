@@ -6,6 +6,8 @@ pub mod Labels
 pub mod Counts
 pub mod World
 pub mod Stepped
+pub mod Guarded
+pub mod Promises
 pub mod Reports
 pub mod Readable
 pub mod Rests
