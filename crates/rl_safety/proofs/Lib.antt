@@ -1,6 +1,7 @@
 pub mod Payloads
 pub mod Minds
 pub mod Words
+pub mod Labels
 pub mod Effects
 pub mod TrainLabels
 pub mod BoxLabels
