@@ -1,7 +1,6 @@
 -- The laws of the steps of a box.
 use Rattle.std.proofs.Common.{◌≡◌, ℕ, ◌<◌, ◌≤◌, nat_lt, true, false, Some, if◌then◌else◌, refl, sym, ap, subst, ◌∙◌, arith}
 use Rattle.std.proofs.lemmas.Bool.{lt-ltb, le-ltb}
-use Rattle.std.proofs.lemmas.Option.{some_pair_parts}
 use Rattle.rl_base.specs.declared.limits.TheConstants.{MAX_BOXES}
 use Rattle.rl_base.specs.Numbers.{IsU32}
 use Rattle.rl_base.specs.declared.job.Verb.{Verb}
@@ -35,11 +34,6 @@ pub step_back : ComparesItself → (b : BoxTable) (mind : BoxMind) (kind : WordK
 unfolding box_step
 step_back same b mind kind payload new after p =
     packed_back (box_on b mind) kind payload new after (packed_by _ _ kind payload new after (box_back same b mind) p)
-
-pub one_step : ComparesItself → (b : BoxTable) (mind : BoxMind) (word next other : Word) (after last : BoxMind) → BoxStep b mind word next after
-    → BoxStep b mind word other last → (next ≡ other) × (after ≡ last)
-one_step same b mind word next other after last p q =
-    some_pair_parts next other after last (sym (box_back same b mind word next after p) ∙ box_back same b mind word other last q)
 
 -- the box owns the word that it steps at
 owner : (lay : Layout) (b : BoxTable) (mind : BoxMind) (word next : Word) (after : BoxMind) → BoxStep b mind word next after → IsBoxMind lay b mind

@@ -1,24 +1,20 @@
 ghost use Rattle.std.specs.Prelude.{◌≡◌, ◌↔◌, ℕ, false, Some, None};
 ghost use Rattle.rl_base.specs.declared.layout.Layout.{Layout};
 ghost use Rattle.rl_base.specs.declared.layout.WordKind.{WordKind};
-ghost use Rattle.rl_words.specs.Word.{Word, PackedStep};
+ghost use Rattle.rl_words.specs.Word.{PackedStep};
 ghost use Rattle.rl_tables.specs.declared.table.BoxTable.{BoxTable};
 ghost use Rattle.rl_box.specs.declared.mind.BoxMind.{BoxMind};
 ghost use Rattle.rl_box.specs.Glance.{may_step};
 ghost use Rattle.rl_box.specs.Kept.{IsAtWord, KeepsBox};
-ghost use Rattle.rl_box.specs.Steps.{BoxStep, box_on, box_step};
+ghost use Rattle.rl_box.specs.Steps.{BoxStep, box_step};
 
 use rl_words::{arms, letters, words};
 
-/// The function of a box gives exactly the steps of the sentences: of words, and of their payloads. So it gives none
-/// exactly where no line fits, and no two lines that fit differ.
+/// The function of a box gives exactly the steps of the sentences. So it gives none exactly where no line fits, and no
+/// two lines that fit differ.
 pub fn box_lines()
-    ensures words { (b : BoxTable) (mind : BoxMind) (word next : Word) (after : BoxMind)
-        → (box_on b mind word ≡ Some (next, after)) ↔ BoxStep b mind word next after }
-    ensures payloads { (b : BoxTable) (mind : BoxMind) (kind : WordKind) (payload new : ℕ) (after : BoxMind)
+    ensures { (b : BoxTable) (mind : BoxMind) (kind : WordKind) (payload new : ℕ) (after : BoxMind)
         → (box_step b mind kind payload ≡ Some (new, after)) ↔ PackedStep (BoxStep b mind) kind payload new after }
-    ensures one { (b : BoxTable) (mind : BoxMind) (word next other : Word) (after last : BoxMind)
-        → BoxStep b mind word next after → BoxStep b mind word other last → (next ≡ other) × (after ≡ last) }
 {
     // Letters that are compared field by field are one, for the proof.
     letters();

@@ -1,16 +1,20 @@
-ghost use Rattle.std.specs.Prelude.{◌≡◌, ◌<◌, ◌≤◌, false, None, IfSome};
+ghost use Rattle.std.specs.Prelude.{◌≡◌, ◌↔◌, ℕ, ◌<◌, ◌≤◌, false, Some, None, IfSome};
 ghost use Rattle.rl_base.specs.declared.limits.TheConstants.{MAX_BOXES, MAX_TRAINS};
+ghost use Rattle.rl_base.specs.declared.layout.NodeKind.TheVariants as nodes;
 ghost use Rattle.rl_base.specs.declared.layout.WordKind.{WordKind};
 ghost use Rattle.rl_base.specs.declared.layout.WordKind.TheVariants as kinds;
-ghost use Rattle.rl_base.specs.Layout.{word_count, word_number, HasWord};
+ghost use Rattle.rl_base.specs.Layout.{word_count, word_number, node_number, HasWord};
 ghost use Rattle.rl_words.specs.Lock.{FitsPath};
 ghost use Rattle.rl_words.specs.Mail.{FitsLetter};
+ghost use Rattle.rl_words.specs.Owner.{Owns};
+ghost use Rattle.rl_words.specs.Word.{PackedStep};
 ghost use Rattle.rl_tables.specs.declared.table.BoxTable.{BoxTable};
+ghost use Rattle.rl_box.specs.declared.mind.BoxMind.{BoxMind};
 ghost use Rattle.rl_box.specs.Glance.{asks_box, says_moved, may_step};
 ghost use Rattle.rl_box.specs.Mind.{box_at, IsAnswer, IsBoxMind};
-ghost use Rattle.rl_box.specs.Steps.{box_step, box_target};
+ghost use Rattle.rl_box.specs.Steps.{BoxStep, box_step, box_target};
 
-use crate::laws::{box_glances, box_steps};
+use crate::laws::{box_glances, box_lines, box_steps};
 use crate::mind::{Answer, BoxMind, Work};
 use crate::{mail, points, reservations};
 use rl_base::{BoxId, Layout, TrainId, Verb, WordKind, WordNo};
@@ -56,23 +60,28 @@ impl BoxMind {
     }
 
     /// The step that fits the word and its payload: the new payload and the mind after it. `None` exactly where no
-    /// step fits.
+    /// step fits. The box owns the value that it changes.
     pub fn act(&self, lay: &Layout, b: &BoxTable, w: WordNo, payload: u32) -> Option<(u32, BoxMind)>
         requires boxes { lay.now.boxes ≤ MAX_BOXES }
         requires trains { lay.now.trains ≤ MAX_TRAINS }
         requires there { b.now.number.0 < lay.now.boxes }
         requires within { w.0 < word_count lay.now }
         requires mind { IsBoxMind lay.now b.now self.now }
+        ensures sentence { (kind : WordKind) → HasWord lay.now kind → word_number lay.now kind ≡ w.0
+            → (new : ℕ) (after : BoxMind) → (result ≡ Some (new, after))
+            ↔ PackedStep (BoxStep b.now self.now) kind payload new after }
+        ensures owned { IfSome result (λ r. Owns lay.now w.0 payload (node_number lay.now (nodes.Box b.now.number))) }
         ensures step { (kind : WordKind) → HasWord lay.now kind → word_number lay.now kind ≡ w.0
             → result ≡ box_step b.now self.now kind payload }
         ensures kept { IfSome result (λ r. IsBoxMind lay.now b.now r.1) }
     {
+        // What the sentences say of a step, and what it keeps to, for the proof.
+        box_lines();
+        box_steps();
         if !self.may_step(b.number, payload) {
             return None;
         }
         let kind = lay.word_kind(w);
-        // The mind after a step is well formed, for the proof.
-        box_steps();
         self.step(lay, b, kind, payload)
     }
 

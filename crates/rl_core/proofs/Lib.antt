@@ -8,3 +8,4 @@ pub mod Counting
 pub mod Fates
 pub mod CoreWorlds
 pub mod Replaying
+pub mod Promised

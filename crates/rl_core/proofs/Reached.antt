@@ -21,17 +21,18 @@ use Rattle.rl_core.proofs.Onward.{leads_on}
 use Rattle.rl_core.proofs.Turned.{leads_advanced, sizes_made, sizes_advanced}
 
 pub reached_sound : ((tables : Tables) (tries : ℕ) (events : List Event) → IsLine tables → tries ≤ 1000 → length events < 2 ^ 32 → IsRun tables tries events
-    → IsSound tables (length events) (state tables tries events)) → (core : Core) → IsReached core → core.events < 2 ^ 32
+    → IsSound tables (length events) (state tables tries events)) → (core : Core) → IsReached core
     → IsSound core.line core.events (state_of core)
-reached_sound law core reached few =
+reached_sound law core reached =
+    let few = reached.few in
     let count : core.events ≡ length reached.drive.events = reached.leads.events in
     let sound = law core.line core.tries reached.drive.events reached.line reached.few_tries (omega arith) reached.leads.run in
     rw (count, ← reached.leads.state) sound
 
 pub reached_made : (core : Core) (n w was payload : ℕ) (mind : Mind) → IsReached core → n < node_count (layout_of core.line)
-    → slice_get core.words w ≡ Some was → node_step core.line n ((state_of core).minds n) w (payload_in was) ≡ Some (payload, mind)
+    → core.events < 4294967295 → slice_get core.words w ≡ Some was → node_step core.line n ((state_of core).minds n) w (payload_in was) ≡ Some (payload, mind)
     → IsReached (made core n w was payload mind)
-reached_made core n w was payload mind reached there word step =
+reached_made core n w was payload mind reached there few word step =
     record {
       drive = record reached.drive { events = event_in core n w was payload ∷ reached.drive.events };
       leads = leads_on core reached.drive n w was payload mind reached.sizes there reached.leads word step;
@@ -40,6 +41,7 @@ reached_made core n w was payload mind reached there word step =
       line = reached.line;
       some_tries = reached.some_tries;
       few_tries = reached.few_tries;
+      few = omega arith;
     }
 
 -- the place of a reached core, and that the next one is a place too
@@ -73,4 +75,5 @@ reached_advanced core n reached there =
       line = reached.line;
       some_tries = reached.some_tries;
       few_tries = reached.few_tries;
+      few = reached.few;
     }

@@ -1,5 +1,5 @@
 -- A core as code keeps it, in tables, and the state and the run that these tables stand for.
-use Rattle.std.specs.Prelude.{◌≡◌, ℕ, ◌<◌, ◌≤◌, List, length, slice_get, slice_index_or, Some}
+use Rattle.std.specs.Prelude.{◌≡◌, ℕ, ◌<◌, ◌≤◌, ◌^◌, List, length, slice_get, slice_index_or, Some}
 use Rattle.rl_base.specs.Tries.{AreFewTries}
 use Rattle.rl_base.specs.Layout.{word_count, node_count}
 use Rattle.rl_tables.specs.declared.table.Tables.{Tables}
@@ -44,7 +44,7 @@ pub record HasSizes (core : Core) : Type 0 where
   pub clocks : length core.clocks ≡ node_count (layout_of core.line)
   pub scans : length core.scans ≡ node_count (layout_of core.line)
 
--- some run leads to the core, which has the sizes of its line
+-- some run leads to the core, which has the sizes of its line. Its events are as few as stamps have room for
 pub record IsReached (core : Core) : Type 0 where
   pub drive : Drive
   pub leads : LeadsTo drive core
@@ -53,3 +53,4 @@ pub record IsReached (core : Core) : Type 0 where
   pub line : IsLine core.line
   pub some_tries : 1 ≤ core.tries
   pub few_tries : AreFewTries core.tries
+  pub few : core.events < 2 ^ 32

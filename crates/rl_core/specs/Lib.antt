@@ -3,6 +3,7 @@ pub mod Made
 pub mod Starts
 pub mod Looks
 pub mod Turns
+pub mod Promises
 pub mod Speed
 pub mod Reports
 pub mod Worlds

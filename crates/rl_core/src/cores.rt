@@ -1,4 +1,4 @@
-ghost use Rattle.std.specs.Prelude.{◌≡◌, length, ◌+◌, ◌<◌, ◌≤◌, ◌^◌, slice_get, slice_set, slice_index_or, Some, IfOk};
+ghost use Rattle.std.specs.Prelude.{◌≡◌, length, ◌+◌, ◌<◌, ◌≤◌, slice_get, slice_set, slice_index_or, Some, IfOk};
 ghost use Rattle.rl_base.specs.Tries.{AreFewTries};
 ghost use Rattle.rl_base.specs.Layout.{node_count, word_count};
 ghost use Rattle.rl_words.specs.Stamps.{payload_in, stamp_in};
@@ -152,7 +152,6 @@ impl<'a> Core<'a> {
 
     /// What is so of the core's state, whatever run led to it.
     pub(crate) fn sound(&self)
-        requires { self.now.events < 2 ^ 32 }
         ensures sound { IsSound self.now.line self.now.events (state_of self.now) }
         ensures sizes { HasSizes self.now }
         ensures line { IsLine self.now.line }
@@ -164,8 +163,7 @@ impl<'a> Core<'a> {
     /// The mind of the node, which is well formed.
     #[inline(always)]
     pub(crate) fn mind(&self, n: NodeNo) -> &Mind
-        requires there { n.0 < node_count (layout_of self.now.line) }
-        requires few { self.now.events < 2 ^ 32 }
+        requires { n.0 < node_count (layout_of self.now.line) }
         ensures mind { (state_of self.now).minds n.0 ≡ result.now }
         ensures formed { HasMind self.now.line n.0 result.now }
     {

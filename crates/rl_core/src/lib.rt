@@ -7,6 +7,7 @@
 pub mod cores;
 mod look;
 pub mod moves;
+mod promises;
 mod redoing;
 pub mod replays;
 pub mod reports;

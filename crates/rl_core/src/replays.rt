@@ -2,6 +2,7 @@ ghost use Rattle.std.specs.Prelude.{◌≡◌, ◌≢◌, ◌⊎◌, ℕ, ◌<�
 ghost use Rattle.rl_base.specs.Tries.{AreFewTries};
 ghost use Rattle.rl_steps.specs.Run.{IsRun};
 ghost use Rattle.rl_core.specs.Cores.{LeadsTo};
+ghost use Rattle.rl_core.specs.Promises.{RunsKeepPromises};
 ghost use Rattle.rl_core.specs.Replays.{replayed, IsFirstMisfit};
 ghost use Rattle.rl_core.specs.declared.replays.ReplayFault.TheVariants as faults;
 
@@ -49,6 +50,7 @@ pub fn replay<'a>(
     ensures at { (i : ℕ) → result ≡ Err (faults.At i) → IsFirstMisfit line.now tries events.now i }
     ensures line { IfOk result (λ core. core.line ≡ line.now) }
     ensures tries { IfOk result (λ core. core.tries ≡ tries) }
+    ensures promised { IfOk result RunsKeepPromises }
 
     // Each comes wherever it is so, unless memory ran out.
     ensures runs { IsRun line.now tries (reverse events.now) → (i : ℕ) → result ≢ Err (faults.At i) }
@@ -61,5 +63,7 @@ pub fn replay<'a>(
             return Err(ReplayFault::At(i as u32));
         }
     }
+    // What every run promises, for the proof.
+    core.promised();
     Ok(core)
 }

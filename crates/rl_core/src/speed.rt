@@ -4,7 +4,7 @@
 //! turn in which it has no step is a load and a compare: a `Watch` of each node is kept, and a `Glance` by it tells
 //! that the node has no step, or nothing. A new mind forgets the watch.
 
-ghost use Rattle.std.specs.Prelude.{◌≡◌, ℕ, ◌<◌, ◌≤◌, ◌^◌, true, false, if◌then◌else◌};
+ghost use Rattle.std.specs.Prelude.{◌≡◌, ℕ, ◌<◌, ◌≤◌, true, false, if◌then◌else◌};
 ghost use Rattle.std.specs.Prelude.{length, slice_index_or, replicate, is_some, Some, IfSome, IfOk};
 ghost use Rattle.rl_base.specs.declared.layout.NodeKind.TheVariants as nodes;
 ghost use Rattle.rl_base.specs.Layout.{node_count};
@@ -15,11 +15,13 @@ ghost use Rattle.rl_steps.specs.Turn.{next_place};
 ghost use Rattle.rl_core.specs.Cores.{state_of};
 ghost use Rattle.rl_core.specs.Looks.{IsLook, answer_to};
 ghost use Rattle.rl_core.specs.Made.{advanced};
+ghost use Rattle.rl_core.specs.Promises.{KeepsIdleTurn};
 ghost use Rattle.rl_core.specs.Speed.{IsGlance, IsNext, IsWatch, look_of, ready_of, waits_of, watch_by, watch_scanning};
 ghost use Rattle.rl_core.specs.Turns.{IsIdleTurn};
 
 use crate::cores::Core;
 use crate::look::Look;
+use crate::promises::turns_keep_promises;
 use rl_base::{Arm, BoxId, NoMemory, NodeNo, TrainId, WordNo};
 use rl_box::{BoxMind, Work, box_glances};
 use rl_record::Turn;
@@ -124,7 +126,6 @@ impl<'a> Core<'a> {
         requires waits { waits ≡ waits_of ((state_of self.now).minds node.0) }
         requires scan { scan ≤ length self.now.line.trains }
         requires next { next ≡ next_place self.now.line scan }
-        requires few { self.now.events < 2 ^ 32 }
         ensures { IfSome result (IsGlance self.now.line (state_of self.now) node.0 scan) }
     {
         self.sound();
@@ -145,7 +146,6 @@ impl<'a> Core<'a> {
         requires ready { is_ready ((state_of self.now).minds node.0) ≡ true }
         requires waits { waits ≡ waits_of ((state_of self.now).minds node.0) }
         requires there { node.0 < node_count (layout_of self.now.line) }
-        requires few { self.now.events < 2 ^ 32 }
         ensures { IfSome result (IsGlance self.now.line (state_of self.now) node.0
             (slice_index_or self.now.scans node.0 0)) }
     {
@@ -162,7 +162,6 @@ impl<'a> Core<'a> {
     fn glance_rarely(&self, node: NodeNo, rare: Rare) -> Option<Glance>
         requires watch { IsWatch self.now.line node.0 ((state_of self.now).minds node.0) (Watch.Rarely rare) }
         requires there { node.0 < node_count (layout_of self.now.line) }
-        requires few { self.now.events < 2 ^ 32 }
         ensures { IfSome result (IsGlance self.now.line (state_of self.now) node.0
             (slice_index_or self.now.scans node.0 0)) }
     {
@@ -176,8 +175,7 @@ impl<'a> Core<'a> {
     /// A glance of the node at its target, by what is kept of it. `None` where it has to look closely.
     #[inline(always)]
     pub(crate) fn glance(&self, node: NodeNo) -> Option<Glance>
-        requires there { node.0 < node_count (layout_of self.now.line) }
-        requires few { self.now.events < 2 ^ 32 }
+        requires { node.0 < node_count (layout_of self.now.line) }
         ensures { IfSome result (IsGlance self.now.line (state_of self.now) node.0
             (slice_index_or self.now.scans node.0 0)) }
     {
@@ -199,7 +197,6 @@ impl<'a> Core<'a> {
     /// What is kept of a node that has looked.
     fn watch_of(&self, node: NodeNo, look: Look) -> Watch
         requires there { node.0 < node_count (layout_of self.now.line) }
-        requires few { self.now.events < 2 ^ 32 }
         requires looks { is_ready ((state_of self.now).minds node.0) ≡ false
             → (scan : ℕ) → IsLook self.now.line (state_of self.now) node.0 scan look }
         ensures { IsWatch self.now.line node.0 ((state_of self.now).minds node.0) result }
@@ -221,7 +218,6 @@ impl<'a> Core<'a> {
     /// Keeps what a node has seen that has no step.
     pub(crate) fn keep_look(&mut self, node: NodeNo, look: Look)
         requires there { node.0 < node_count (layout_of self.old.line) }
-        requires few { self.old.events < 4294967295 }
         requires looks { is_ready ((state_of self.old).minds node.0) ≡ false
             → (scan : ℕ) → IsLook self.old.line (state_of self.old) node.0 scan look }
         ensures { self.new ≡ self.old }
@@ -258,11 +254,13 @@ impl<'a> Core<'a> {
     /// it then; where it wasn't made, all is as it was, and `turn_closely` makes it.
     #[inline(always)]
     pub fn passes(&mut self, node: NodeNo) -> bool
-        requires there { node.0 < node_count (layout_of self.old.line) }
-        requires few { self.old.events < 4294967295 }
+        requires { node.0 < node_count (layout_of self.old.line) }
         ensures passed { result ≡ true → IsIdleTurn self.old self.new node.0 }
+        ensures promised { result ≡ true → KeepsIdleTurn self.old self.new node.0 }
         ensures unchanged { result ≡ false → self.new ≡ self.old }
     {
+        // What turns promise, for the proof.
+        turns_keep_promises();
         self.reached();
         match self.glance(node) {
             Some(glance) => {

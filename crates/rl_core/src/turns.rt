@@ -1,4 +1,4 @@
-ghost use Rattle.std.specs.Prelude.{◌≡◌, ℕ, ◌<◌, ◌^◌, true, false, length, slice_index_or, if◌then◌else◌};
+ghost use Rattle.std.specs.Prelude.{◌≡◌, ℕ, ◌<◌, true, false, length, slice_index_or, if◌then◌else◌};
 ghost use Rattle.rl_base.specs.declared.layout.NodeKind.TheVariants as nodes;
 ghost use Rattle.rl_base.specs.Layout.{node_count, node_number};
 ghost use Rattle.rl_tables.specs.Starts.{layout_of};
@@ -6,10 +6,12 @@ ghost use Rattle.rl_steps.specs.Step.{is_ready};
 ghost use Rattle.rl_core.specs.Cores.{state_of};
 ghost use Rattle.rl_core.specs.Looks.{IsLook, after_look, answer_to};
 ghost use Rattle.rl_core.specs.Made.{advanced};
+ghost use Rattle.rl_core.specs.Promises.{KeepsTurn};
 ghost use Rattle.rl_core.specs.Turns.{IsTurn};
 
 use crate::cores::Core;
 use crate::look::Look;
+use crate::promises::turns_keep_promises;
 use rl_base::{NodeKind, NodeNo, TrainId};
 use rl_record::Turn;
 use rl_steps::who::{Who, identify};
@@ -20,8 +22,7 @@ use rl_words::payload_of;
 impl<'a> Core<'a> {
     /// The mind of the train.
     pub fn train(&self, t: TrainId) -> TrainMind
-        requires there { t.0 < length self.now.line.trains }
-        requires few { self.now.events < 2 ^ 32 }
+        requires { t.0 < length self.now.line.trains }
         ensures { (state_of self.now).minds (node_number (layout_of self.now.line) (nodes.Train t))
             ≡ Mind.Train result }
     {
@@ -38,8 +39,7 @@ impl<'a> Core<'a> {
     /// What the node sees where it looks, a ready box at its scan place.
     #[inline(always)]
     fn look(&self, node: NodeNo) -> Look
-        requires there { node.0 < node_count (layout_of self.now.line) }
-        requires few { self.now.events < 2 ^ 32 }
+        requires { node.0 < node_count (layout_of self.now.line) }
         ensures look { IsLook self.now.line (state_of self.now) node.0 (slice_index_or self.now.scans node.0 0) result }
         ensures steady { is_ready ((state_of self.now).minds node.0) ≡ false
             → (scan : ℕ) → IsLook self.now.line (state_of self.now) node.0 scan result }
@@ -96,8 +96,11 @@ impl<'a> Core<'a> {
     pub fn turn(&mut self, node: NodeNo) -> Turn
         requires there { node.0 < node_count (layout_of self.old.line) }
         requires few { self.old.events < 4294967295 }
-        ensures { IsTurn self.old self.new node.0 result }
+        ensures turn { IsTurn self.old self.new node.0 result }
+        ensures promised { KeepsTurn self.old self.new node.0 result }
     {
+        // What turns promise, for the proof.
+        turns_keep_promises();
         self.reached();
         match self.glance(node) {
             Some(glance) => self.pass(node, glance),
@@ -111,8 +114,11 @@ impl<'a> Core<'a> {
     pub fn turn_closely(&mut self, node: NodeNo) -> Turn
         requires there { node.0 < node_count (layout_of self.old.line) }
         requires few { self.old.events < 4294967295 }
-        ensures { IsTurn self.old self.new node.0 result }
+        ensures turn { IsTurn self.old self.new node.0 result }
+        ensures promised { KeepsTurn self.old self.new node.0 result }
     {
+        // What turns promise, for the proof.
+        turns_keep_promises();
         self.reached();
         let ready = is_ready(self.mind(node));
         let look = self.look(node);

@@ -36,7 +36,7 @@ use Rattle.rl_protocol.specs.TableLine.{line_of}
 use Rattle.rl_safety.specs.Railway.{segment_of}
 use Rattle.rl_safety.specs.Moves.{arm_move, resv_move}
 use Rattle.rl_protocol.specs.Sentences.{StateSays}
-use Rattle.rl_safety.specs.Labels.{IsLabel}
+use Rattle.rl_safety.proofs.Labels.{IsLabel}
 use Rattle.rl_protocol.proofs.BoxLabels.{few_arms, four_arms, new_resv, same_resv, same_lock}
 
 -- a box of the tables, as the state has it

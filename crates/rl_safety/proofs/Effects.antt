@@ -24,7 +24,7 @@ use Rattle.rl_steps.proofs.Options.{from_map}
 use Rattle.rl_protocol.specs.State.{State}
 use Rattle.rl_safety.specs.Reading.{read, resv_in, lock_in, mail_in, run_in, sense_in, train_of, track_of, box_of}
 use Rattle.rl_protocol.specs.Sentences.{with_word}
-use Rattle.rl_safety.specs.Effects.{with_mind}
+use Rattle.rl_safety.proofs.Labels.{with_mind}
 use Rattle.rl_safety.proofs.Minds.{IsBy, trains_kept, trains_new, tracks_kept, tracks_new, boxes_kept, boxes_new}
 use Rattle.rl_safety.proofs.Words.{IsOn, locks_kept, locks_new, mails_kept, mails_new, runs_kept, runs_new, senses_kept, senses_new, resvs_kept, resvs_new}
 

@@ -56,7 +56,7 @@ use Rattle.rl_protocol.specs.StepMoves as moves
 use Rattle.rl_protocol.specs.Nodes.{node_of}
 use Rattle.rl_protocol.specs.TableLine.{line_of, row_at}
 use Rattle.rl_protocol.specs.Sentences.{StateSays}
-use Rattle.rl_safety.specs.Labels.{IsLabel}
+use Rattle.rl_safety.proofs.Labels.{IsLabel}
 use Rattle.rl_safety.specs.Moves.{move_of}
 use Rattle.rl_safety.specs.Reading.{read, payload_of, holder_read}
 use Rattle.rl_safety.proofs.BoxLabels.{IsBoxHere, box_label, machine_label}

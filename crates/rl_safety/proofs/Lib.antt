@@ -1,6 +1,7 @@
 pub mod Payloads
 pub mod Minds
 pub mod Words
+pub mod Labels
 pub mod Effects
 pub mod TrainLabels
 pub mod BoxLabels
@@ -15,3 +16,4 @@ pub mod AskedSteps
 pub mod Rests
 pub mod Ranges
 pub mod KeptWorlds
+pub mod Newest

@@ -212,7 +212,7 @@ Agreeing =
 pub run_stepped : Laws → ReadsValues → Agreeing → (tables : Tables) (tries : ℕ) (events : List Event) → IsLine tables → IsConsistent (line_of tables)
     → AreFewTries tries → runs.IsRun tables tries events → IsStepped tables tries events
 run_stepped laws values agreeing tables tries [] line fine few run =
-    record { steps = []; run = tt; state = start_read values tables tries line; moves = refl; count = refl; by = λ n node at. refl }
+    record { steps = []; run = tt; each = tt; state = start_read values tables tries line; moves = refl; count = refl; by = λ n node at. refl }
 run_stepped laws values agreeing tables tries (e ∷ earlier) line fine few run =
     let before = run_stepped laws values agreeing tables tries earlier line fine few run.0 in
     let agrees_there = agreeing (line_of tables) tries before.steps fine before.run in
@@ -224,6 +224,7 @@ run_stepped laws values agreeing tables tries (e ∷ earlier) line fine few run 
     record {
       steps = made.step ∷ before.steps;
       run = (before.run, subst F before.state made.fits);
+      each = (before.each, record { fits = made.fits; by = made.at ∙ ap Some (sym made.by); move = made.move; leaves = made.leaves });
       state = made.leaves ∙ ap (λ s. next (line_of tables) s made.step) before.state;
       moves = rw (before.moves, made.move) refl;
       count = ap suc before.count;

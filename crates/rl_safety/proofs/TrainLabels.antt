@@ -27,7 +27,7 @@ use Rattle.rl_protocol.specs.Steps.Step.{post as post_label, hear_yes as hear_ye
 use Rattle.rl_protocol.specs.Steps.Step.{enter as enter_label, head as head_label, leave as leave_label, tail as tail_label}
 use Rattle.rl_protocol.specs.TableLine.{line_of, row_at}
 use Rattle.rl_protocol.specs.Sentences.{StateSays}
-use Rattle.rl_safety.specs.Labels.{IsLabel}
+use Rattle.rl_safety.proofs.Labels.{IsLabel}
 
 -- a train of the tables, as the state has it
 pub record IsTrainHere (tables : Tables) (s : State) (x : TrainTable) (m : TrainMind) : Type 0 where

@@ -1,11 +1,11 @@
 pub mod Railway
 pub mod Reading
-pub mod Effects
 pub mod Moves
-pub mod Labels
 pub mod Counts
 pub mod World
 pub mod Stepped
+pub mod Guarded
+pub mod Promises
 pub mod Reports
 pub mod Readable
 pub mod AtWork

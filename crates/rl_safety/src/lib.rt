@@ -5,6 +5,7 @@
 #![tactic(auto)]
 
 pub mod laws;
+pub mod promises;
 pub mod work;
 pub mod worlds;
 
@@ -12,5 +13,6 @@ pub use laws::{
     agreement, counted_events, counted_refusals, right_reports, safe_runs, steps_of_events,
     trains_at_rest,
 };
+pub use promises::{newest_events, promises_of_runs};
 pub use work::{boxes_at_work, readable_words, turns_at_rest};
 pub use worlds::worlds_of_runs;

@@ -68,10 +68,6 @@ event_at node stamp word was payload =
           stamped stamp payload;
     }
 
--- the step of node n of the state on word w
-abbrev pub step_in : Tables → CoreState → ℕ → ℕ → Option (ℕ × Mind)
-step_in tables c n w = option_and_then (λ was. node_step tables n (c.minds n) w (payload_in was)) (slice_get c.words w)
-
 -- the event that node n makes on word w, if it has a step there
 abbrev pub event_of : Tables → CoreState → ℕ → ℕ → Option Event
 event_of tables c n w =

@@ -1,7 +1,7 @@
 -- The steps of a point machine: the function gives exactly those of the sentences, and what they keep to.
-use Rattle.std.proofs.Common.{◌≡◌, ℕ, ◌<◌, ◌==◌, true, Some, refl, sym, ap, subst, ◌∙◌}
+use Rattle.std.proofs.Common.{◌≡◌, ◌↔◌, ℕ, ◌<◌, ◌==◌, true, Option, Some, None, IfSome, refl, sym, ap, subst, ◌∙◌}
 use Rattle.std.proofs.lemmas.Bool.{eqb-true, eq-eqb}
-use Rattle.std.proofs.lemmas.Option.{same_Some, some_pair_parts}
+use Rattle.std.proofs.lemmas.Option.{same_Some}
 use Rattle.rl_base.specs.Numbers.{IsU32}
 use Rattle.rl_base.specs.declared.ids.BoxId.{BoxId}
 use Rattle.rl_base.specs.declared.layout.Layout.{Layout}
@@ -64,11 +64,6 @@ unfolding machine_step
 step_back b mind kind payload new after p =
     packed_back (machine_on b mind) kind payload new after (packed_by _ _ kind payload new after (machine_back b mind) p)
 
-pub one_step : (b : BoxId) (mind : MachineMind) (word next other : Word) (after last : MachineMind) → MachineStep b mind word next after
-    → MachineStep b mind word other last → (next ≡ other) × (after ≡ last)
-one_step b mind word next other after last p q =
-    some_pair_parts next other after last (sym (machine_back b mind word next after p) ∙ machine_back b mind word other last q)
-
 -- what is so of a step of a machine, word by word
 record Keeps (lay : Layout) (b : BoxId) (word next : Word) : Type 0 where
   target : kind_of word ≡ machine_target b
@@ -102,3 +97,20 @@ keeps reads small owns lay b mind kind payload new after there e =
       reads = record { kind_is = k.kind ∙ r.kind_is; fits = k.fits; packed = p.packs };
       small = subst (λ n. IsU32 n) p.packs (small p.left k.fits);
     }
+
+-- what the function gives at the target, the sentences relate, and the machine owns the value
+pub acts_by_lines : (b : BoxId) (mind : MachineMind) (payload : ℕ) (result : Option (ℕ × MachineMind))
+    → result ≡ machine_step b mind (machine_target b) payload
+    → (new : ℕ) (after : MachineMind) → (result ≡ Some (new, after)) ↔ PackedStep (MachineStep b mind) (machine_target b) payload new after
+acts_by_lines b mind payload result is new after = (
+  λ e. step_front b mind (machine_target b) payload new after (sym is ∙ e),
+  λ p. is ∙ step_back b mind (machine_target b) payload new after p,
+)
+
+pub acts_owned : ((lay : Layout) (b : BoxId) (mind : MachineMind) (kind : WordKind) (payload new : ℕ) (after : MachineMind) → b.0 < lay.boxes
+    → machine_step b mind kind payload ≡ Some (new, after) → KeepsMachine lay b mind kind payload new after)
+    → (lay : Layout) (b : BoxId) (mind : MachineMind) (payload : ℕ) (result : Option (ℕ × MachineMind)) → b.0 < lay.boxes
+    → result ≡ machine_step b mind (machine_target b) payload
+    → IfSome result (λ r. Owns lay (word_number lay (machine_target b)) payload (node_number lay (nodes.Machine b)))
+acts_owned keeps_to lay b mind payload None there is = tt
+acts_owned keeps_to lay b mind payload (Some r) there is = (keeps_to lay b mind (machine_target b) payload r.0 r.1 there (sym is)).owned

@@ -1,7 +1,7 @@
 -- The steps of a track: the function gives exactly those of the sentences, and what they keep to.
-use Rattle.std.proofs.Common.{◌≡◌, ℕ, ◌<◌, ◌==◌, true, Some, refl, sym, ap, subst, ◌∙◌, arith}
+use Rattle.std.proofs.Common.{◌≡◌, ◌↔◌, ℕ, ◌<◌, ◌==◌, true, Option, Some, None, IfSome, refl, sym, ap, subst, ◌∙◌, arith}
 use Rattle.std.proofs.lemmas.Bool.{eqb-true, eq-eqb}
-use Rattle.std.proofs.lemmas.Option.{same_Some, some_pair_parts}
+use Rattle.std.proofs.lemmas.Option.{same_Some}
 use Rattle.rl_base.specs.Numbers.{IsU32}
 use Rattle.rl_base.specs.declared.ids.TrainId.{TrainId}
 use Rattle.rl_base.specs.declared.layout.Layout.{Layout}
@@ -107,11 +107,6 @@ pub step_back : (t : TrainId) (mind : TrackMind) (kind : WordKind) (payload new 
 unfolding track_step
 step_back t mind kind payload new after p = packed_back (track_on t mind) kind payload new after (packed_by _ _ kind payload new after (track_back t mind) p)
 
-pub one_step : (t : TrainId) (mind : TrackMind) (word next other : Word) (after last : TrackMind) → TrackStep t mind word next after
-    → TrackStep t mind word other last → (next ≡ other) × (after ≡ last)
-one_step t mind word next other after last p q =
-    some_pair_parts next other after last (sym (track_back t mind word next after p) ∙ track_back t mind word other last q)
-
 -- what is so of a step of a track, word by word
 record Keeps (lay : Layout) (t : TrainId) (mind : TrackMind) (word next : Word) (after : TrackMind) : Type 0 where
   target : kind_of word ≡ track_target t mind
@@ -160,3 +155,19 @@ keeps reads small owns lay t mind kind payload new after there h e =
       small = subst (λ n. IsU32 n) p.packs (small p.left k.fits);
       after_is = k.after_is;
     }
+
+-- what the function gives at the target, the sentences relate, and the track owns the value
+pub acts_by_lines : (t : TrainId) (mind : TrackMind) (payload : ℕ) (result : Option (ℕ × TrackMind)) → result ≡ track_step t mind (track_target t mind) payload
+    → (new : ℕ) (after : TrackMind) → (result ≡ Some (new, after)) ↔ PackedStep (TrackStep t mind) (track_target t mind) payload new after
+acts_by_lines t mind payload result is new after = (
+  λ e. step_front t mind (track_target t mind) payload new after (sym is ∙ e),
+  λ p. is ∙ step_back t mind (track_target t mind) payload new after p,
+)
+
+pub acts_owned : ((lay : Layout) (t : TrainId) (mind : TrackMind) (kind : WordKind) (payload new : ℕ) (after : TrackMind) → t.0 < lay.trains → IsTrackMind mind
+    → track_step t mind kind payload ≡ Some (new, after) → KeepsTrack lay t mind kind payload new after)
+    → (lay : Layout) (t : TrainId) (mind : TrackMind) (payload : ℕ) (result : Option (ℕ × TrackMind)) → t.0 < lay.trains → IsTrackMind mind
+    → result ≡ track_step t mind (track_target t mind) payload
+    → IfSome result (λ r. Owns lay (word_number lay (track_target t mind)) payload (node_number lay (nodes.Track t)))
+acts_owned keeps_to lay t mind payload None there sound is = tt
+acts_owned keeps_to lay t mind payload (Some r) there sound is = (keeps_to lay t mind (track_target t mind) payload r.0 r.1 there sound (sym is)).owned

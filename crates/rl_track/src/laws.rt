@@ -1,28 +1,16 @@
-ghost use Rattle.std.specs.Prelude.{◌≡◌, ◌↔◌, ◌<◌, ℕ, false, Some, None};
+ghost use Rattle.std.specs.Prelude.{◌≡◌, ◌<◌, ℕ, false, Some, None};
 ghost use Rattle.rl_base.specs.declared.ids.BoxId.{BoxId};
 ghost use Rattle.rl_base.specs.declared.ids.TrainId.{TrainId};
 ghost use Rattle.rl_base.specs.declared.layout.Layout.{Layout};
 ghost use Rattle.rl_base.specs.declared.layout.WordKind.{WordKind};
-ghost use Rattle.rl_words.specs.Word.{Word, PackedStep};
 ghost use Rattle.rl_track.specs.declared.machine.MachineMind.{MachineMind};
 ghost use Rattle.rl_track.specs.declared.track.TrackMind.{TrackMind};
 ghost use Rattle.rl_track.specs.Glance.{may_move, may_report};
 ghost use Rattle.rl_track.specs.Kept.{KeepsTrack, KeepsMachine};
-ghost use Rattle.rl_track.specs.Machine.{MachineStep, machine_on, machine_step};
-ghost use Rattle.rl_track.specs.Track.{IsTrackMind, TrackStep, track_on, track_step};
+ghost use Rattle.rl_track.specs.Machine.{machine_step};
+ghost use Rattle.rl_track.specs.Track.{IsTrackMind, track_step};
 
 use rl_words::words;
-
-/// The function of a track gives exactly the steps of the sentences: of words, and of their payloads. So it gives
-/// none exactly where no line fits, and no two lines that fit differ.
-pub fn track_lines()
-    ensures words { (t : TrainId) (mind : TrackMind) (word next : Word) (after : TrackMind)
-        → (track_on t mind word ≡ Some (next, after)) ↔ TrackStep t mind word next after }
-    ensures payloads { (t : TrainId) (mind : TrackMind) (kind : WordKind) (payload new : ℕ) (after : TrackMind)
-        → (track_step t mind kind payload ≡ Some (new, after)) ↔ PackedStep (TrackStep t mind) kind payload new after }
-    ensures one { (t : TrainId) (mind : TrackMind) (word next other : Word) (after last : TrackMind)
-        → TrackStep t mind word next after → TrackStep t mind word other last → (next ≡ other) × (after ≡ last) }
-{}
 
 /// Where a glance at a payload says no, the track has no step at any word with that payload.
 pub fn track_glances()
@@ -43,17 +31,6 @@ pub fn track_steps()
     // What is known of any word, for the proof.
     words();
 }
-
-/// The function of a point machine gives exactly the steps of the sentences, as that of a track does.
-pub fn machine_lines()
-    ensures words { (b : BoxId) (mind : MachineMind) (word next : Word) (after : MachineMind)
-        → (machine_on b mind word ≡ Some (next, after)) ↔ MachineStep b mind word next after }
-    ensures payloads { (b : BoxId) (mind : MachineMind) (kind : WordKind) (payload new : ℕ) (after : MachineMind)
-        → (machine_step b mind kind payload ≡ Some (new, after)) ↔ PackedStep
-        (MachineStep b mind) kind payload new after }
-    ensures one { (b : BoxId) (mind : MachineMind) (word next other : Word) (after last : MachineMind)
-        → MachineStep b mind word next after → MachineStep b mind word other last → (next ≡ other) × (after ≡ last) }
-{}
 
 /// Where a glance at a payload says no, the machine has no step at any word with that payload.
 pub fn machine_glances()

@@ -8,8 +8,6 @@ pub mod laws;
 pub mod machine;
 pub mod track;
 
-pub use laws::{
-    machine_glances, machine_lines, machine_steps, track_glances, track_lines, track_steps,
-};
+pub use laws::{machine_glances, machine_steps, track_glances, track_steps};
 pub use machine::MachineMind;
 pub use track::{TrackMind, TrackPhase};

@@ -1,13 +1,18 @@
-ghost use Rattle.std.specs.Prelude.{◌≡◌, ◌<◌, ◌≤◌, false, None, IfSome, option_map};
+ghost use Rattle.std.specs.Prelude.{◌≡◌, ◌↔◌, ℕ, ◌<◌, ◌≤◌, false, Some, None, IfSome};
 ghost use Rattle.rl_base.specs.declared.limits.TheConstants.{MAX_BOXES, MAX_TRAINS};
 ghost use Rattle.rl_base.specs.declared.ids.BoxId.{BoxId};
+ghost use Rattle.rl_base.specs.declared.layout.Layout.{Layout};
+ghost use Rattle.rl_base.specs.declared.layout.NodeKind.TheVariants as nodes;
 ghost use Rattle.rl_base.specs.declared.layout.WordKind.{WordKind};
-ghost use Rattle.rl_base.specs.Layout.{word_count, word_number};
+ghost use Rattle.rl_base.specs.Layout.{word_count, word_number, node_number};
+ghost use Rattle.rl_words.specs.Owner.{Owns};
 ghost use Rattle.rl_words.specs.Lock.{FitsLock};
+ghost use Rattle.rl_words.specs.Word.{PackedStep};
+ghost use Rattle.rl_track.specs.declared.machine.MachineMind.{MachineMind};
 ghost use Rattle.rl_track.specs.Glance.{may_move};
-ghost use Rattle.rl_track.specs.Machine.{lock_turn, machine_step, machine_target};
+ghost use Rattle.rl_track.specs.Machine.{MachineStep, lock_turn, machine_step, machine_target};
 
-use crate::laws::machine_glances;
+use crate::laws::{machine_glances, machine_steps};
 use rl_base::{BoxId, Layout, WordKind, WordNo};
 use rl_words::LockWord;
 
@@ -49,9 +54,23 @@ impl MachineMind {
     }
 
     /// The step that fits the payload of the target: the new payload and the mind after it. `None` exactly where
-    /// no step fits.
+    /// no step fits. The machine of the box owns the value that it changes.
     pub fn act(&self, payload: u32) -> Option<(u32, MachineMind)>
+        ensures sentence { (b : BoxId) (new : ℕ) (after : MachineMind) → (result ≡ Some (new, after))
+            ↔ PackedStep (MachineStep b self.now) (machine_target b) payload new after }
+        ensures owned { (lay : Layout) (b : BoxId) → b.0 < lay.boxes → IfSome result
+            (λ r. Owns lay (word_number lay (machine_target b)) payload (node_number lay (nodes.Machine b))) }
         ensures step { (b : BoxId) → result ≡ machine_step b self.now (machine_target b) payload }
+    {
+        // What a step keeps to, for the proof.
+        machine_steps();
+        self.step_there(payload)
+    }
+
+    /// The step by a glance, and by a closer look where that doesn't say no.
+    #[inline(always)]
+    fn step_there(&self, payload: u32) -> Option<(u32, MachineMind)>
+        ensures { (b : BoxId) → result ≡ machine_step b self.now (machine_target b) payload }
     {
         if self.may_step(payload) {
             self.step(payload)

@@ -1,14 +1,19 @@
-ghost use Rattle.std.specs.Prelude.{◌≡◌, ◌<◌, ◌≤◌, false, None, IfSome};
+ghost use Rattle.std.specs.Prelude.{◌≡◌, ◌↔◌, ℕ, ◌<◌, ◌≤◌, false, Some, None, IfSome};
 ghost use Rattle.rl_base.specs.declared.limits.TheConstants.{MAX_BOXES, MAX_TRAINS};
 ghost use Rattle.rl_base.specs.declared.ids.TrainId.{TrainId};
+ghost use Rattle.rl_base.specs.declared.layout.Layout.{Layout};
+ghost use Rattle.rl_base.specs.declared.layout.NodeKind.TheVariants as nodes;
 ghost use Rattle.rl_base.specs.declared.layout.WordKind.{WordKind};
-ghost use Rattle.rl_base.specs.Layout.{word_count, word_number};
+ghost use Rattle.rl_base.specs.Layout.{word_count, word_number, node_number};
+ghost use Rattle.rl_words.specs.Owner.{Owns};
 ghost use Rattle.rl_words.specs.Run.{FitsRun};
 ghost use Rattle.rl_words.specs.Sense.{FitsSense};
+ghost use Rattle.rl_words.specs.Word.{PackedStep};
+ghost use Rattle.rl_track.specs.declared.track.TrackMind.{TrackMind};
 ghost use Rattle.rl_track.specs.Glance.{may_report};
-ghost use Rattle.rl_track.specs.Track.{start_track, IsTrackMind, run_turn, sense_turn, track_step, track_target};
+ghost use Rattle.rl_track.specs.Track.{start_track, IsTrackMind, TrackStep, run_turn, sense_turn, track_step, track_target};
 
-use crate::laws::track_glances;
+use crate::laws::{track_glances, track_steps};
 use rl_base::{Layout, TrainId, WordKind, WordNo};
 use rl_words::{RunWord, SenseWord};
 
@@ -56,8 +61,24 @@ impl TrackMind {
     }
 
     /// The step that fits the payload of the target: the new payload and the mind after it. `None` exactly where
-    /// no step fits.
+    /// no step fits. The track of the train owns the value that it changes.
     pub fn act(&self, payload: u32) -> Option<(u32, TrackMind)>
+        requires { IsTrackMind self.now }
+        ensures sentence { (t : TrainId) (new : ℕ) (after : TrackMind) → (result ≡ Some (new, after))
+            ↔ PackedStep (TrackStep t self.now) (track_target t self.now) payload new after }
+        ensures owned { (lay : Layout) (t : TrainId) → t.0 < lay.trains → IfSome result
+            (λ r. Owns lay (word_number lay (track_target t self.now)) payload (node_number lay (nodes.Track t))) }
+        ensures step { (t : TrainId) → result ≡ track_step t self.now (track_target t self.now) payload }
+        ensures kept { IfSome result (λ r. IsTrackMind r.1) }
+    {
+        // What a step keeps to, for the proof.
+        track_steps();
+        self.step_there(payload)
+    }
+
+    /// The step by a glance, and by a closer look where that doesn't say no.
+    #[inline(always)]
+    fn step_there(&self, payload: u32) -> Option<(u32, TrackMind)>
         requires { IsTrackMind self.now }
         ensures step { (t : TrainId) → result ≡ track_step t self.now (track_target t self.now) payload }
         ensures kept { IfSome result (λ r. IsTrackMind r.1) }

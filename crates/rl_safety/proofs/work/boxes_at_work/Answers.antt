@@ -30,7 +30,7 @@ returns c =
     } in
     let laws : WorkLaws = record {
       words = record { reads = c.words.ensures.reads; only = c.words.ensures.only };
-      lines = c.box_lines.ensures.payloads;
+      lines = c.box_lines.ensures;
       at_work = c.sentences_as_steps.ensures.at_work;
       asked = c.sentences_as_steps.ensures.asked;
     } in

@@ -14,6 +14,7 @@ invariant_of-result c = (
     line = c.start_minds.ensures.line;
     some_tries = c.requires.some_tries;
     few_tries = c.requires.few_tries;
+    few = omega arith;
   },
   rw c.in_ok-watches.ensures (watches_start c.args.line.now c.in_ok-minds.minds.items),
 )
