@@ -1,3 +1,4 @@
 pub mod Counting
 pub mod Judging
 pub mod OneVerdict
+pub mod OneJudgment

@@ -1,4 +1,4 @@
-ghost use Rattle.std.specs.Prelude.{◌≡◌, option_map, IfNone, IfSome, IsTrue};
+ghost use Rattle.std.specs.Prelude.{◌≡◌, ℕ, false, option_map, IfNone, IfSome, IsTrue};
 ghost use Rattle.rl_model.specs.Moves.{IsFree, IsUnlocked, HasLockOf};
 ghost use Rattle.rl_domain.specs.Rows.{world_of, Fits};
 ghost use Rattle.rl_model.specs.Network.{IsTrainOf, IsSegmentOf, IsBoxOf};
@@ -27,6 +27,21 @@ impl World {
         ensures in_range { IfSome result (IsTrainOf net.now) }
     {
         self.holder(net, s, b)
+    }
+
+    /// The train that is on the segment.
+    pub fn occupied_by(&self, net: &Network, s: SegId) -> Option<TrainId>
+        requires { Fits net.now self.now }
+        ensures free { IfNone result ((t : ℕ) → (world_of net.now self.now).occupies t s.0 ≡ false) }
+        ensures occupied { IfSome result (λ t. IsTrue ((world_of net.now self.now).occupies t.0 s.0)) }
+        ensures in_range { IfSome result (IsTrainOf net.now) }
+    {
+        for k in 0..net.trains() {
+            if self.standing(TrainId(k)).is_on(s) {
+                return Some(TrainId(k));
+            }
+        }
+        None
     }
 
     /// The train that has the lock of the box.

@@ -1,0 +1,4 @@
+pub mod Below
+pub mod Boards
+pub mod Changes
+pub mod BoardText

@@ -1,0 +1,4 @@
+pub mod Jams
+pub mod JamText
+pub mod Finding
+pub mod Stuck
