@@ -1,7 +1,7 @@
 -- What the code finds at an end: whether it breaks a rule.
-use Rattle.std.proofs.Common.{◌≡◌, ℕ, suc, ◌+◌, ◌*◌, ◌<◌, ◌≤◌, Bool, true, false, not, ltb, ◌&&◌, List, [], ◌∷◌, ◌++◌, length, map, take, slice_get, Option, Some, None, is_some, is_none, refl, sym, ap, ap₂, ◌∙◌, arith, add-one}
+use Rattle.std.proofs.Common.{◌≡◌, ℕ, ◌+◌, ◌*◌, ◌<◌, Bool, true, false, not, ltb, ◌&&◌, List, [], ◌∷◌, ◌++◌, length, map, take, slice_get, Option, Some, None, is_some, is_none, refl, sym, ap, ap₂, ◌∙◌, arith, add-one}
 use Rattle.std.proofs.lemmas.Bool.{and_right}
-use Rattle.std.proofs.lemmas.List.{map_push, length-map}
+use Rattle.std.proofs.lemmas.List.{map_push}
 use Rattle.std.proofs.lemmas.Option.{slice_get_within}
 use Rattle.std.specs.Option.{option_map_or}
 use Rattle.rl_base.specs.Kind.{arms_of}
@@ -13,7 +13,6 @@ use Rattle.rl_ends.specs.EndNames.{end_of}
 use Rattle.rl_ends.specs.EndsDrafts.{texts_of, box_names, named_arm, named_arms, end_number}
 use Rattle.rl_ends.specs.EndRules.{end_breaks}
 use Rattle.rl_ends.specs.EndRefusals.{IsKept}
-use Rattle.rl_ends.specs.Tables.{Keeps}
 use Rattle.rl_ends.specs.declared.ends_draft.EndsBox.{EndsBox}
 use Rattle.rl_ends.specs.declared.ends_draft.EndsDraft.{EndsDraft}
 use Rattle.rl_ends.proofs.ArmNumbers.{end_number-within}

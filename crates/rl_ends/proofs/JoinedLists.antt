@@ -1,5 +1,5 @@
 -- The boxes of the draft that ends say, box by box.
-use Rattle.std.proofs.Common.{◌≡◌, ℕ, zero, suc, ◌+◌, List, [], ◌∷◌, ◌++◌, drop, take, slice_get, Some, refl, sym, ap, ◌∙◌, append_assoc}
+use Rattle.std.proofs.Common.{◌≡◌, ℕ, zero, suc, List, [], ◌∷◌, ◌++◌, drop, take, slice_get, Some, sym, ap, ◌∙◌, append_assoc}
 use Rattle.std.proofs.lemmas.Option.{none-some, same_Some}
 use Rattle.rl_base.specs.declared.draft.DraftBox.{DraftBox}
 use Rattle.rl_ends.specs.EndsDrafts.{joined_box, joined_boxes}

@@ -8,3 +8,4 @@ pub mod JoinedLists
 pub mod Found
 pub mod PartedEnds
 pub mod PartedLaws
+pub mod SegmentEnds

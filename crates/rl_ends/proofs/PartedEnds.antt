@@ -1,8 +1,7 @@
 -- The ends of a draft that is whole: what the text of each names, and which end names an arm.
-use Rattle.std.proofs.Common.{◌≡◌, ◌≢◌, ℕ, zero, suc, ◌+◌, ◌*◌, ◌/◌, ◌%◌, ◌<◌, ◌≤◌, Bool, true, false, cond, eqb, ◌&&◌, List, [], ◌∷◌, length, map, slice_get, slice_index_or, Option, Some, None, is_some, is_none, option_map, option_and_then, ◌⊎◌, inl, inr, ⊎_elim, refl, sym, ap, ap₂, ◌∙◌, subst, arith}
-use Rattle.std.proofs.lemmas.Bool.{both_ways, and_parts, and_from, eqb-true, eq-eqb, cases_eq, cases_Bool, false_from_ne_true}
-use Rattle.std.proofs.lemmas.List.{length-map}
-use Rattle.std.proofs.lemmas.Option.{none-some, same_Some, slice_get-map, slice_get_within}
+use Rattle.std.proofs.Common.{◌≡◌, ℕ, zero, suc, ◌/◌, ◌%◌, ◌<◌, ◌≤◌, Bool, true, false, cond, eqb, List, [], ◌∷◌, map, slice_get, Option, Some, option_map, option_and_then, ◌⊎◌, inl, inr, refl, sym, ap, ap₂, ◌∙◌, subst, arith}
+use Rattle.std.proofs.lemmas.Bool.{both_ways, and_parts, and_from, eqb-true, eq-eqb, false_from_ne_true}
+use Rattle.std.proofs.lemmas.Option.{none-some, same_Some, slice_get_within}
 use Rattle.rl_base.specs.Kind.{arms_of}
 use Rattle.rl_base.specs.Name.{is_name}
 use Rattle.rl_base.specs.declared.kind.Kind.{Kind}
@@ -17,7 +16,6 @@ use Rattle.rl_drafts.proofs.Numbers.{AreDistinct, AreDistinct-from_twice, number
 use Rattle.rl_ends.specs.EndNames.{EndName, end_of}
 use Rattle.rl_ends.specs.EndsDrafts.{texts_of, box_names as ends_box_names, named_arm, named_arms, is_arm, end_number}
 use Rattle.rl_ends.specs.Parted.{HasTwoEnds, IsWhole, text_of_end, parted_segment, parted_box, parted}
-use Rattle.rl_ends.specs.declared.ends_draft.EndsSegment.{EndsSegment}
 use Rattle.rl_ends.specs.declared.ends_draft.EndsBox.{EndsBox}
 use Rattle.rl_ends.proofs.EndNames.{end_of-text}
 use Rattle.rl_ends.proofs.EndLists.{text_in, text_at}

@@ -1,12 +1,13 @@
 -- A draft that is whole comes back from its segments with ends, and these break no rule.
-use Rattle.std.proofs.Common.{◌≡◌, ℕ, zero, suc, ◌+◌, ◌*◌, ◌/◌, ◌%◌, ◌<◌, ◌≤◌, Bool, true, false, cond, ltb, eqb, not, ◌||◌, List, [], ◌∷◌, ◌++◌, length, map, take, get_or, slice_get, Option, Some, None, is_some, is_none, option_map, ◌&&◌, refl, sym, ap, ap₂, ◌∙◌, subst, arith, add-one}
+use Rattle.std.proofs.Common.{◌≡◌, ℕ, zero, suc, ◌+◌, ◌*◌, ◌/◌, ◌%◌, ◌<◌, ◌≤◌, Bool, true, false, cond, ltb, eqb, not, List, [], ◌∷◌, ◌++◌, length, map, take, get_or, slice_get, Option, Some, None, is_some, is_none, option_map, ◌&&◌, refl, sym, ap, ap₂, ◌∙◌, subst, arith, add-one}
 use Rattle.std.specs.Option.{option_map_or}
-use Rattle.std.proofs.lemmas.Bool.{false≢true, and_right, or_from, lt-ltb, eq-eqb, ne_eqb, cases_eq}
+use Rattle.std.proofs.lemmas.Bool.{false≢true, and_right, or_from, lt-ltb, eq-eqb, ne_eqb}
 use Rattle.std.proofs.lemmas.List.{take_all, take_more, length-take}
 use Rattle.std.proofs.lemmas.Option.{same_Some, slice_get-map, slice_get_within, get_or_from_slice_get}
 use Rattle.rl_base.specs.Kind.{arms_of}
 use Rattle.rl_base.specs.declared.draft.Draft.{Draft}
 use Rattle.rl_base.specs.declared.draft.DraftBox.{DraftBox}
+use Rattle.rl_base.specs.declared.draft.DraftTrain.{DraftTrain}
 use Rattle.rl_base.specs.declared.place.Place.TheVariants as place
 use Rattle.rl_model.specs.declared.network.SegmentEnd.{SegmentEnd}
 use Rattle.rl_drafts.specs.Drafts.{end_at}
@@ -19,9 +20,10 @@ use Rattle.rl_ends.specs.EndRefusals.{IsKept}
 use Rattle.rl_ends.specs.Parted.{IsWhole, parted_segment, parted_box, parted}
 use Rattle.rl_ends.specs.declared.ends_draft.EndsSegment.{EndsSegment}
 use Rattle.rl_ends.specs.declared.ends_draft.EndsBox.{EndsBox}
+use Rattle.rl_ends.specs.declared.ends_draft.EndsDraft.{EndsDraft}
 use Rattle.rl_ends.proofs.Answered.{below_21, kept_more, unbroken}
 use Rattle.rl_ends.proofs.ArmNumbers.{end_number-within, end_number-found}
-use Rattle.rl_ends.proofs.PartedEnds.{IsEndOf, IsPartedEnd, low_end, high_end, one_name, text_says, text_names, parted_end, same_arm, distinct_segments, arm_found}
+use Rattle.rl_ends.proofs.PartedEnds.{IsEndOf, low_end, high_end, one_name, text_says, text_names, parted_end, same_arm, distinct_segments, arm_found}
 use Rattle.rl_ends.proofs.Rules.{kept_ends, kept_boxes}
 
 -- a test that fails at each number below n
@@ -235,3 +237,11 @@ module _ (d : Draft) (whole : IsWhole d) where
       let below_24 = kept_more p 23 24 refl below_23 (ends 23 (omega arith) keeps_23) in
       let below_25 = kept_more p 24 25 refl below_24 (ends 24 (omega arith) keeps_24) in
       unbroken p (kept_more p 25 26 refl below_25 (kept_boxes p (length p.boxes) (omega arith) (λ j before. keeps_25 j)))
+
+-- what is made part by part
+pub parted_is : (d : Draft) (segments : List EndsSegment) (boxes : List EndsBox) (trains : List DraftTrain) → segments ≡ map (parted_segment d) d.segments
+    → boxes ≡ map parted_box d.boxes → trains ≡ d.trains
+    → (let x : EndsDraft = record { segments = segments; boxes = boxes; trains = trains } in x) ≡ parted d
+parted_is d segments boxes trains p q r =
+    ap₂ (λ (s : List EndsSegment) (b : List EndsBox). let x : EndsDraft = record { segments = s; boxes = b; trains = trains } in x) p q
+    ∙ ap (λ (t : List DraftTrain). let x : EndsDraft = record { segments = (parted d).segments; boxes = (parted d).boxes; trains = t } in x) r

@@ -1,5 +1,5 @@
 -- The rules 21 to 25 of segments with ends, by their numbers: where they are broken, and which refusal is the first.
-use Rattle.std.specs.Prelude.{◌≡◌, ℕ, zero, suc, ◌+◌, ◌*◌, ◌<◌, ◌==◌, nat_lt, Bool, true, false, not, ◌&&◌, ◌||◌, ◌⊎◌, if◌then◌else◌, List, length, take, slice_get, is_some, is_none}
+use Rattle.std.specs.Prelude.{◌≡◌, ℕ, zero, suc, ◌+◌, ◌*◌, ◌<◌, ◌==◌, nat_lt, Bool, true, false, not, ◌&&◌, ◌||◌, ◌⊎◌, if◌then◌else◌, List, take, slice_get, is_some, is_none}
 use Rattle.std.specs.Option.{option_map_or}
 use Rattle.rl_base.specs.Kind.{arms_of}
 use Rattle.rl_base.specs.Place.{IsNoLater}

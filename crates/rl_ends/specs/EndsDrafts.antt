@@ -6,7 +6,7 @@ use Rattle.rl_base.specs.declared.draft.Draft.{Draft}
 use Rattle.rl_base.specs.declared.draft.DraftBox.{DraftBox}
 use Rattle.rl_model.specs.declared.network.SegmentEnd.{SegmentEnd}
 use Rattle.rl_drafts.specs.Drafts.{number_in, end_at}
-use Rattle.rl_ends.specs.EndNames.{EndName, end_of}
+use Rattle.rl_ends.specs.EndNames.{end_of}
 use Rattle.rl_ends.specs.declared.ends_draft.EndsSegment.{EndsSegment}
 use Rattle.rl_ends.specs.declared.ends_draft.EndsBox.{EndsBox}
 use Rattle.rl_ends.specs.declared.ends_draft.EndsDraft.{EndsDraft}

@@ -4,3 +4,4 @@ pub mod EndRules
 pub mod EndRefusals
 pub mod Tables
 pub mod Parted
+pub mod SegmentEnds

@@ -1,4 +1,4 @@
-use Rattle.std.proofs.Common.{◌≡◌, ℕ, suc, ◌++◌, drop, sym, subst, arith, add-one}
+use Rattle.std.proofs.Common.{◌≡◌, ℕ, ◌++◌, drop, sym, subst, arith, add-one}
 use Rattle.rl_drafts.proofs.Lookups.{item_within}
 use Rattle.rl_ends.specs.EndsDrafts.{joined_boxes}
 use Rattle.rl_ends.proofs.JoinedLists.{boxes_more}

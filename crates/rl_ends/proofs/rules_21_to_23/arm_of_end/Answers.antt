@@ -1,4 +1,4 @@
-use Rattle.std.proofs.Common.{ℕ, List, Some, option_map, option_and_then, ap, sym, ◌∙◌, arith}
+use Rattle.std.proofs.Common.{ℕ, Some, option_map, option_and_then, ap, sym, ◌∙◌, arith}
 use Rattle.std.proofs.lemmas.List.{length-map}
 use Rattle.rl_drafts.specs.Drafts.{number_in, end_at}
 use Rattle.rl_ends.specs.EndNames.{EndName}

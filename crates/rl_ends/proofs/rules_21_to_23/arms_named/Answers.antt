@@ -1,4 +1,4 @@
-use Rattle.std.proofs.Common.{◌≡◌, ℕ, ◌<◌, refl, sym, ◌∙◌, subst, arith, below_more}
+use Rattle.std.proofs.Common.{refl, sym, ◌∙◌, subst, arith, below_more}
 use Rattle.std.proofs.lemmas.List.{take_all}
 use Rattle.rl_ends.specs.EndsDrafts.{named_arms}
 use Rattle.rl_ends.specs.EndRefusals.{IsFirstBreak}

@@ -1,4 +1,4 @@
-use Rattle.std.proofs.Common.{◌≡◌, ℕ, ◌<◌, refl, sym, ◌∙◌, subst, arith, below_more}
+use Rattle.std.proofs.Common.{refl, sym, ◌∙◌, subst, arith, below_more}
 use Rattle.rl_ends.specs.EndRefusals.{IsFirstBreak}
 use Rattle.rl_ends.proofs.EndLists.{length-found}
 use Rattle.rl_ends.proofs.Rules.{first_end, kept_ends}

@@ -1,4 +1,4 @@
-use Rattle.std.proofs.Common.{Bool, not, ltb, ℕ, ap, sym, ◌∙◌}
+use Rattle.std.proofs.Common.{not, ltb, ℕ, ap, sym, ◌∙◌}
 use Rattle.rl_ends.proofs.EndLists.{is_named}
 use Rattle.rl_ends.proofs.Found.{lacks}
 use Rattle.rl_ends.proofs.rules_21_to_23.lacks_arm.Goals as goal

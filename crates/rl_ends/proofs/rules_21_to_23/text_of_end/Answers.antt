@@ -1,4 +1,4 @@
-use Rattle.std.proofs.Common.{List, ℕ, Bool, false, cond, eqb, ◌%◌, ◌≡◌, Some, option_map, ap, sym, ◌∙◌}
+use Rattle.std.proofs.Common.{Bool, cond, ◌%◌, Some, option_map, ap, sym, ◌∙◌}
 use Rattle.std.proofs.lemmas.Bool.{eq-eqb, ne_eqb}
 use Rattle.rl_ends.proofs.EndLists.{text_in, text_at}
 use Rattle.rl_ends.proofs.rules_21_to_23.text_of_end.Goals as goal

@@ -1,4 +1,4 @@
-use Rattle.std.proofs.Common.{◌≡◌, ℕ, ◌+◌, ◌*◌, ◌<◌, List, length, take, Option, refl, sym, ◌∙◌, subst, arith, add-one, below_more}
+use Rattle.std.proofs.Common.{ℕ, ◌+◌, ◌*◌, length, take, refl, sym, subst, arith, add-one, below_more}
 use Rattle.std.proofs.lemmas.Bool.{MatchBool-at_true, MatchBool-at_false}
 use Rattle.std.proofs.lemmas.Option.{slice_get_within}
 use Rattle.rl_ends.specs.EndsDrafts.{named_arms}

@@ -1,4 +1,4 @@
-use Rattle.std.proofs.Common.{◌≡◌, ℕ, ◌*◌, ◌<◌, false, length, take}
+use Rattle.std.proofs.Common.{◌≡◌, ℕ, ◌<◌, false, length, take}
 use Rattle.rl_ends.specs.EndsDrafts.{named_arms}
 use Rattle.rl_ends.specs.EndRules.{end_breaks}
 use Rattle.rl_ends.specs.Tables.{Keeps}

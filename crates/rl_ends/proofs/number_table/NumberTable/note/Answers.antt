@@ -1,4 +1,4 @@
-use Rattle.std.proofs.Common.{ℕ, List, Bool, Some, cond, bytes_eq, ap, ◌∙◌}
+use Rattle.std.proofs.Common.{ℕ, List, Some, cond, bytes_eq, ap, ◌∙◌}
 use Rattle.rl_ends.specs.Tables.{noted}
 use Rattle.rl_ends.proofs.Numbers.{noted_more}
 use Rattle.rl_ends.proofs.number_table.NumberTable.note.Goals as goal

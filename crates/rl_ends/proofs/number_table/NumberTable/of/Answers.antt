@@ -1,7 +1,7 @@
 use Rattle.std.proofs.Common.{◌≡◌, ℕ, suc, ◌-◌, ◌<◌, length, map, slice_get, Some, refl, sym, ap, ◌∙◌, subst, arith}
 use Rattle.std.proofs.lemmas.Option.{slice_get_read}
 use Rattle.rl_drafts.proofs.Lookups.{item_mapped}
-use Rattle.rl_ends.proofs.Numbers.{HasNumbersFrom, HasNumbersFrom-more, HasNumbersFrom-all}
+use Rattle.rl_ends.proofs.Numbers.{HasNumbersFrom, HasNumbersFrom-more}
 use Rattle.rl_ends.proofs.number_table.NumberTable.of.Goals as goal
 
 pub loop-i-preserved : goal.loop-i-preserved
