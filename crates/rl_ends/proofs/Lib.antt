@@ -1,0 +1,11 @@
+pub mod EndNames
+pub mod EndLists
+pub mod Rules
+pub mod Answered
+pub mod ArmNumbers
+pub mod Numbers
+pub mod JoinedLists
+pub mod Found
+pub mod PartedEnds
+pub mod PartedLaws
+pub mod SegmentEnds
