@@ -725,7 +725,7 @@ async function testAlone() {
     await test("a network alone, and what is dropped on it", async () => {
         await browser.visit(path.join(folder, "alone.html"));
         assert.equal(await browser.run(() => getComputedStyle(document.getElementById("controls")).display), "none");
-        assert.equal(await browser.run(() => document.querySelectorAll("#picture .boxes > g").length), 9);
+        assert.equal(await browser.run(() => document.querySelectorAll("#picture .boxes > g").length), 11);
         const dropped = async (...texts) => browser.run(async texts => {
             await drop(texts.map((text, i) => new File([text], `dropped-${i}.txt`)));
             return [document.querySelector("#slider")?.max, document.getElementById("fault")?.textContent];
