@@ -52,6 +52,18 @@ name = "T1"
 route = ["A", "J1", "B"]
 "#;
 
+/// Three segments in a line, and a train that goes over two of them: its first step looks ahead.
+const THREE: &str = r#"format = 1
+segments = ["A", "B", "C"]
+box = [
+  { name = "W", kind = "buffer", arms = ["A"] },
+  { name = "J1", kind = "joint", arms = ["A", "B"] },
+  { name = "J2", kind = "joint", arms = ["B", "C"] },
+  { name = "E", kind = "buffer", arms = ["C"] },
+]
+train = [{ name = "T1", route = ["A", "J1", "B", "J2", "C"] }]
+"#;
+
 /// A point P between the stem S and the branches L and R. The train wants to go right.
 const FORK: &str = r#"format = 1
 segments = ["S", "L", "R"]
@@ -188,6 +200,7 @@ fn named(name: &str) -> &'static str {
     match name.as_bytes() {
         b"track" => TRACK,
         b"straight" => STRAIGHT,
+        b"three" => THREE,
         b"occupied" => OCCUPIED,
         b"fork" => FORK,
         b"crossing" => CROSSING,

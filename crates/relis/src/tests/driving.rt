@@ -161,6 +161,63 @@ release T1 A W
 train T1 spent 1 0
 end
 
+drive NET 200 <- three
+relis report 1
+tries 100
+reserve T1 B J1
+reserve T1 B J2
+reserve T1 C J2
+reserve T1 C E
+lock T1 J1 A B
+enter T1 J1 A B
+leave T1 A
+unlock T1 J1
+release T1 A J1
+release T1 A W
+lock T1 J2 B C
+enter T1 J2 B C
+leave T1 B
+unlock T1 J2
+release T1 B J2
+release T1 B J1
+train T1 arrived 2 0
+end
+
+drive NET 200 --tries 1 <- three
+relis report 1
+tries 1
+reserve T1 B J1
+reserve T1 B J2
+reserve T1 C J2
+reserve T1 C E
+lock T1 J1 A B
+enter T1 J1 A B
+leave T1 A
+unlock T1 J1
+release T1 A J1
+release T1 A W
+release T1 C E
+release T1 C J2
+train T1 spent 1 0
+end
+
+drive NET 200 --tries 2 <- three | "C"] }] => "C"] }, { name = "T2", route = ["C"] }]
+relis report 1
+tries 2
+reserve T1 B J1
+reserve T1 B J2
+refuse T1 C J2 T2
+release T1 B J2
+release T1 B J1
+reserve T1 B J1
+reserve T1 B J2
+refuse T1 C J2 T2
+release T1 B J2
+release T1 B J1
+train T1 spent 0 2
+train T2 arrived 0 0
+end
+
 drive NET 200 <- ring
 relis report 1
 tries 100

@@ -98,10 +98,50 @@ release T1 A W
 train T1 arrived 1 0
 end
 
+run NET <- three
+relis report 1
+tries 100
+reserve T1 B J1
+reserve T1 B J2
+reserve T1 C J2
+reserve T1 C E
+lock T1 J1 A B
+enter T1 J1 A B
+leave T1 A
+unlock T1 J1
+release T1 A J1
+release T1 A W
+lock T1 J2 B C
+enter T1 J2 B C
+leave T1 B
+unlock T1 J2
+release T1 B J2
+release T1 B J1
+train T1 arrived 2 0
+end
+
+run NET --round 1 --workers 2 --tries 1 <- three
+relis report 1
+tries 1
+reserve T1 B J1
+reserve T1 B J2
+reserve T1 C J2
+reserve T1 C E
+lock T1 J1 A B
+enter T1 J1 A B
+leave T1 A
+unlock T1 J1
+release T1 A J1
+release T1 A W
+release T1 C E
+release T1 C J2
+train T1 spent 1 0
+end
+
 run NET --tries 0 <- straight
 usage: relis COMMAND WORDS"#;
 
-/// Asserts a row of the runs.
+/// Asserts a row of the runs, and that the audit of what is printed finds it safe.
 fn assert_run<R: Abort + Threads + Wait + Sync>(
     rt: &R,
     alloc: Global,
@@ -115,6 +155,11 @@ fn assert_run<R: Abort + Threads + Wait + Sync>(
     let (status, written) = answer_of_all(rt, alloc, files.as_slice(), line, &OpenGate)?;
     assert_eq!(rt; written.as_slice(), text.as_bytes(), "at {head}");
     assert_eq!(rt; status.number(), number_for(text.as_str()), "at {head}");
+    if status == Status::Done {
+        let files = [("NET", net.as_bytes()), ("REPORT", written.as_slice())];
+        let (status, _) = answer_with(alloc, files.as_slice(), "audit NET REPORT")?;
+        assert_eq!(rt; status, Status::Done, "at {head}");
+    }
     Ok(())
 }
 
@@ -195,11 +240,11 @@ fn count_safe_runs<R: Threads + Wait + Sync>(
     Ok(safe)
 }
 
-/// Two hundred runs, each cut into rounds of another length, so that two workers meet each other in other places.
+/// Fifty runs, each cut into rounds of another length, so that two workers meet each other in other places.
 #[test]
 fn audits_many_runs(rt: HostRuntime) -> Result<(), Fail> {
-    let safe = count_safe_runs(&rt, rt.alloc(), 200)?;
-    assert_eq!(rt; safe, 200);
+    let safe = count_safe_runs(&rt, rt.alloc(), 50)?;
+    assert_eq!(rt; safe, 50);
     Ok(())
 }
 
