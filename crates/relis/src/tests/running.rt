@@ -195,11 +195,11 @@ fn count_safe_runs<R: Threads + Wait + Sync>(
     Ok(safe)
 }
 
-/// Two hundred runs, each cut into rounds of another length, so that two workers meet each other in other places.
+/// Fifty runs, each cut into rounds of another length, so that two workers meet each other in other places.
 #[test]
 fn audits_many_runs(rt: HostRuntime) -> Result<(), Fail> {
-    let safe = count_safe_runs(&rt, rt.alloc(), 200)?;
-    assert_eq!(rt; safe, 200);
+    let safe = count_safe_runs(&rt, rt.alloc(), 50)?;
+    assert_eq!(rt; safe, 50);
     Ok(())
 }
 
