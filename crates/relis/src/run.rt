@@ -1,6 +1,6 @@
 ghost use Rattle.std.specs.Prelude.{[], ◌∷◌, ◌≤◌, IfOk, IfSome};
 ghost use Rattle.rl_base.specs.Tries.{AreFewTries};
-ghost use Rattle.rl_base.specs.declared.limits.TheConstants.{MIN_TRIES, MAX_WORKERS};
+ghost use Rattle.rl_base.specs.declared.limits.TheConstants.{MIN_TRIES, MIN_ROUND, MAX_WORKERS};
 ghost use Rattle.rl_cli.specs.declared.order.Order.{Order};
 ghost use Rattle.rl_cli.specs.Limits.{IsFrom, IsWithinLimits};
 ghost use Rattle.relis.specs.Answers.{EndsAs, UnlessMemory};
@@ -31,8 +31,10 @@ pub struct RunOptions {
 
 /// The pace that is asked for. Where no number of workers is, there is one for each node, up to `DEFAULT_WORKERS`.
 fn pace_of(net: &Network, options: RunOptions) -> Pace
-    requires { IfSome options.workers (IsFrom 1 MAX_WORKERS) }
-    ensures { 1 ≤ result.workers }
+    requires workers { IfSome options.workers (IsFrom 1 MAX_WORKERS) }
+    requires round { MIN_ROUND ≤ options.round }
+    ensures workers { 1 ≤ result.workers }
+    ensures round { 1 ≤ result.round }
 {
     let nodes = net.layout().nodes();
     Pace {
@@ -54,6 +56,7 @@ fn text_of_run<R: Threads + Wait + Sync, G: Gate>(
     requires some_tries { MIN_TRIES ≤ options.tries }
     requires few_tries { AreFewTries options.tries }
     requires workers { IfSome options.workers (IsFrom 1 MAX_WORKERS) }
+    requires round { MIN_ROUND ≤ options.round }
     ensures { IfOk result (IsRunText net.now options.tries) }
 {
     // What acceptance gave, for the proof.
