@@ -1,5 +1,5 @@
 -- The events of a run: how many there are, on which words they are, and which moves they have.
-use Rattle.std.proofs.Common.{ℕ, zero, suc, ◌+◌, ◌*◌, ◌<◌, ◌≤◌, List, [], ◌∷◌}
+use Rattle.std.proofs.Common.{ℕ, zero, suc, ◌*◌, ◌<◌, ◌≤◌, List, [], ◌∷◌}
 use Rattle.std.proofs.Common.{◌++◌, length, slice_get, sym, subst, arith}
 use Rattle.std.specs.Prelude.{All, reverse, option_map, slice_index_or}
 use Rattle.std.proofs.lemmas.List.{reverse-append, reverse-reverse, length-reverse}
