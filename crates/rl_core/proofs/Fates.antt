@@ -17,8 +17,6 @@ use Rattle.rl_tables.specs.declared.table.Tables.{Tables}
 use Rattle.rl_tables.specs.declared.table.TrainTable.{TrainTable}
 use Rattle.rl_train.specs.declared.mind.TrainMind.{TrainMind}
 use Rattle.rl_train.specs.Mind.{at_rest}
-use Rattle.rl_protocol.specs.Minds.{at_rest as line_at_rest}
-use Rattle.rl_protocol.specs.TableLine.{line_of}
 use Rattle.rl_steps.specs.declared.mind.Mind.{Mind}
 use Rattle.rl_steps.specs.declared.mind.Mind.TheVariants.{Machine}
 use Rattle.rl_steps.specs.State.{CoreState}
@@ -26,28 +24,18 @@ use Rattle.rl_steps.specs.Turn.{Drive}
 use Rattle.rl_safety.specs.Moves.{moves_of}
 use Rattle.rl_safety.specs.Reading.{train_mind}
 use Rattle.rl_safety.specs.Reports.{fate_of, outcome_of, outcomes_of, mind_in, report_of}
-use Rattle.rl_safety.proofs.Rests.{rest_is}
 use Rattle.rl_core.specs.Cores.{Core, LeadsTo}
 use Rattle.rl_core.specs.Reports.{AreMindsAfter, outcomes_by}
 
 module _ (tables : Tables) (t : ℕ) (x : TrainTable) (m : TrainMind) (there : slice_get tables.trains t ≡ Some x) where
-  steps_are : (line_of tables).steps t ≡ length x.rows
-  steps_are = rw there refl
-
   pub fate_underway : at_rest x m ≡ false → Underway ≡ fate_of tables t m
-  fate_underway h = let rests : line_at_rest (line_of tables) t m ≡ false = rest_is tables t x m there ∙ h in rw rests refl
+  fate_underway h = rw (there, h) refl
 
   pub fate_arrived : at_rest x m ≡ true → m.step ≡ length x.rows → Arrived ≡ fate_of tables t m
-  fate_arrived h all =
-      let rests : line_at_rest (line_of tables) t m ≡ true = rest_is tables t x m there ∙ h in
-      let test : (m.step == length x.rows) ≡ true = eq-eqb m.step (length x.rows) all in
-      rw (rests, steps_are, test) refl
+  fate_arrived h all = let test : (m.step == length x.rows) ≡ true = eq-eqb m.step (length x.rows) all in rw (there, h, test) refl
 
   pub fate_spent : at_rest x m ≡ true → (m.step ≡ length x.rows → ⊥) → Spent ≡ fate_of tables t m
-  fate_spent h some =
-      let rests : line_at_rest (line_of tables) t m ≡ true = rest_is tables t x m there ∙ h in
-      let test : (m.step == length x.rows) ≡ false = ne_eqb m.step (length x.rows) some in
-      rw (rests, steps_are, test) refl
+  fate_spent h some = let test : (m.step == length x.rows) ≡ false = ne_eqb m.step (length x.rows) some in rw (there, h, test) refl
 
 -- two lists over the first numbers with the same items
 listed_same : {A : Type 0} (f g : ℕ → A) (n : ℕ) → ((k : ℕ) → k < n → f k ≡ g k) → map f (range_with_len 0 n) ≡ map g (range_with_len 0 n)

@@ -21,7 +21,7 @@ use Rattle.rl_core.specs.declared.look.Look.{Look}
 use Rattle.rl_core.specs.declared.look.Look.TheVariants.{Rests, Idles, Steps}
 use Rattle.rl_core.specs.Cores.{Core, state_of, LeadsTo, HasSizes}
 use Rattle.rl_core.specs.Made.{event_in, made, advanced}
-use Rattle.rl_core.specs.Looks.{IsLook, after_look, answer_to, after_turn}
+use Rattle.rl_core.specs.Looks.{IsLook, after_look, answer_to}
 use Rattle.rl_core.specs.Speed.{IsGlance, IsNext, look_of, ready_of}
 use Rattle.rl_core.specs.Turns.{IsTurn, IsIdleTurn}
 use Rattle.rl_core.proofs.Onward.{leads_on}
@@ -88,6 +88,10 @@ leads_advanced core drive n there leads =
 
     put_other : (f : ℕ → ℕ) (n v m : ℕ) → (m ≡ n → ⊥) → with_value f n v m ≡ f m
     put_other f n v m other = rw (ne_eqb m n other) refl
+
+-- the core after the turn: a box that was ready goes on to its next place
+abbrev after_turn : Core → ℕ → Look → Core
+after_turn core n look = if is_ready ((state_of core).minds n) then advanced (after_look core n look) n else after_look core n look
 
 -- the turn of the definition, by what the node sees
 turn_looked : (core : Core) (drive : Drive) (n scan : ℕ) (look : Look) → LeadsTo drive core → drive.scans n ≡ scan

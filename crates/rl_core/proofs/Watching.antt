@@ -1,14 +1,13 @@
 -- What is kept of the nodes stays right, and what a glance by it tells.
 use Rattle.std.proofs.Common.{◌≡◌, ℕ, ◌<◌, Bool, true, false, List, length, slice_set, slice_get, slice_index_or, replicate, Option, Some, None, is_some, refl, sym, ap, subst, ◌∙◌, inl, inr, arith}
 use Rattle.std.proofs.lemmas.Bool.{cases_eq}
-use Rattle.std.proofs.lemmas.Bool.Decides.{nat_tests}
 use Rattle.std.proofs.lemmas.List.{length-set, length-replicate, get_or-set_same, get_or-set_other, get_or-replicate}
 use Rattle.std.proofs.lemmas.Option.{slice_get_within}
 use Rattle.rl_base.specs.declared.ids.BoxId.{BoxId}
 use Rattle.rl_base.specs.declared.ids.WordNo.{WordNo}
 use Rattle.rl_base.specs.declared.layout.NodeKind.TheVariants as nodes
 use Rattle.rl_base.specs.declared.layout.WordKind.{WordKind}
-use Rattle.rl_base.specs.Layout.{node_count, word_count}
+use Rattle.rl_base.specs.Layout.{node_count}
 use Rattle.rl_words.specs.declared.lock.Path.{Path}
 use Rattle.rl_tables.specs.declared.table.Tables.{Tables}
 use Rattle.rl_tables.specs.declared.table.BoxTable.{BoxTable}

@@ -1,13 +1,13 @@
 -- What a node sees where it looks at its target.
-use Rattle.std.specs.Prelude.{◌≡◌, ℕ, slice_get, Some, None, if◌then◌else◌}
+use Rattle.std.specs.Prelude.{◌≡◌, ℕ, slice_get, Some, None}
 use Rattle.rl_words.specs.Stamps.{payload_in}
 use Rattle.rl_tables.specs.declared.table.Tables.{Tables}
 use Rattle.rl_record.specs.declared.event.Turn.{Turn}
 use Rattle.rl_record.specs.declared.event.Turn.TheVariants as turns
-use Rattle.rl_steps.specs.Step.{node_step, target_of, is_ready}
+use Rattle.rl_steps.specs.Step.{node_step, target_of}
 use Rattle.rl_steps.specs.State.{CoreState}
-use Rattle.rl_core.specs.Cores.{Core, state_of}
-use Rattle.rl_core.specs.Made.{event_in, made, advanced}
+use Rattle.rl_core.specs.Cores.{Core}
+use Rattle.rl_core.specs.Made.{event_in, made}
 use Rattle.rl_core.specs.declared.look.Look.{Look}
 use Rattle.rl_core.specs.declared.look.Look.TheVariants.{Rests, Idles, Steps}
 
@@ -34,8 +34,3 @@ abbrev pub answer_to : Core → ℕ → Look → Turn
 answer_to core n Rests = turns.Rest
 answer_to core n (Idles w was) = turns.Idle was
 answer_to core n (Steps w was payload mind) = turns.Moved (event_in core n w.0 was payload)
-
--- the core after the turn: a box that was ready goes on to its next place
-abbrev pub after_turn : Core → ℕ → Look → Core
-after_turn core n look =
-    if is_ready ((state_of core).minds n) then advanced (after_look core n look) n else after_look core n look

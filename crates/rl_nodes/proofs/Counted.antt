@@ -1,6 +1,6 @@
 -- No list of a run is long: by how often trains may try.
 use Rattle.std.proofs.Common.{◌≡◌, ℕ, ◌+◌, ◌*◌, ◌<◌, ◌≤◌, ◌==◌, nat_lt, Bool, true}
-use Rattle.std.proofs.Common.{false, if◌then◌else◌, List, length, reverse, All, slice_index_or, Some, refl, ap, ◌∙◌, arith}
+use Rattle.std.proofs.Common.{false, if◌then◌else◌, List, length, reverse, All, slice_index_or, Some, refl, ap, subst, ◌∙◌, arith}
 use Rattle.std.proofs.lemmas.Bool.Decides.{nat_tests}
 use Rattle.std.proofs.lemmas.List.{length-reverse}
 use Rattle.std.proofs.lemmas.List.Sums.{length-filter}
@@ -59,21 +59,22 @@ room counts tables tries log line few run =
 -- the records of the nodes of a run, and its merge
 record_few : Counts → (tables : Tables) (tries : ℕ) (log : List Event) (records : List Record) → IsLine tables → AreFewTries tries → IsRun tables tries log
     → AreRecordsOf log records → length records ≡ node_count (layout_of tables)
-    → All (λ r. length r.events ≤ MAX_ATTEMPT_NODE_EVENTS * (length tables.trains * tries)) records
+    → All (λ r. length r.events ≤ MAX_ATTEMPT_NODE_EVENTS * attempts_of tables tries log) records
 record_few counts tables tries log records line few run are size k d within =
     let r = slice_index_or records k d in
     let at = slice_get-get_or records k d within in
     let there = node_there (layout_of tables) k (omega arith) in
     let made : length r.events ≡ events_by k log =
     ap (λ (l : List Event). length l) (are.each k r at) ∙ (length-reverse (history k log) ∙ length-filter (λ (e : Event). e.node.0 == k) log) in
-    omega (arith, made, counts.node tables tries log k there.0 line few run there.1, counts.opened tables tries log)
+    omega (arith, made, counts.node tables tries log k there.0 line few run there.1)
 
 pub all_few : Counts → (tables : Tables) (tries : ℕ) (log : List Event) (records : List Record) (events : List Event) → IsLine tables → AreFewTries tries
     → IsRun tables tries log → AreRecordsOf log records → length records ≡ node_count (layout_of tables) → IsRun tables tries (reverse events)
-    → AreFew (length tables.trains * tries) records events
-all_few counts tables tries log records events line few run are size merged =
+    → attempts_of tables tries log ≡ attempts_of tables tries (reverse events) → AreFew (attempts_of tables tries (reverse events)) records events
+all_few counts tables tries log records events line few run are size merged same =
+    let Few : ℕ → Type 0 = λ attempts. All (λ (r : Record). length r.events ≤ MAX_ATTEMPT_NODE_EVENTS * attempts) records in
     record {
-      each = record_few counts tables tries log records line few run are size;
-      all = omega (arith, length-reverse events, counts.events tables tries (reverse events) line few merged, counts.opened tables tries (reverse events));
-      fits = omega (arith, few_attempts tables tries line few);
+      each = subst Few same (record_few counts tables tries log records line few run are size);
+      all = omega (arith, length-reverse events, counts.events tables tries (reverse events) line few merged);
+      fits = omega (arith, few_attempts tables tries line few, counts.opened tables tries (reverse events));
     }

@@ -1,5 +1,5 @@
 -- What comes of the parts of some rails, from the run behind the closing words: the merge of the records leads there too.
-use Rattle.std.proofs.Common.{◌≡◌, ℕ, List, length, reverse, sym, ap, ◌∙◌}
+use Rattle.std.proofs.Common.{◌≡◌, ℕ, List, length, reverse, refl, sym, ap, ◌∙◌}
 use Rattle.std.proofs.lemmas.List.{length-map}
 use Rattle.rl_base.specs.Numbers.{IsU32}
 use Rattle.rl_base.specs.Tries.{AreFewTries}
@@ -12,11 +12,12 @@ use Rattle.rl_tables.specs.Kept.{IsLine}
 use Rattle.rl_tables.specs.Starts.{layout_of}
 use Rattle.rl_steps.specs.State.{CoreState}
 use Rattle.rl_steps.specs.Run.{IsRun, state}
+use Rattle.rl_safety.specs.Counts.{attempts_of}
 use Rattle.rl_rule.specs.declared.rails.Rails.{Rails}
 use Rattle.rl_rule.specs.Seats.{rails_line, rails_tries}
 use Rattle.rl_nodes.specs.declared.parts.Part.{Part}
 use Rattle.rl_nodes.specs.Parts.{AreParts}
-use Rattle.rl_nodes.specs.Finished.{records_of, minds_of, IsRunOf, end_state, AreMinds, most_attempts, AreFew}
+use Rattle.rl_nodes.specs.Finished.{records_of, minds_of, IsRunOf, end_state, AreMinds, attempts_in, AreFew}
 use Rattle.rl_nodes.proofs.LastRun.{IsLastRun, records_are, minds_are}
 use Rattle.rl_nodes.proofs.Counted.{Counts, room, all_few}
 
@@ -31,7 +32,9 @@ pub record IsOutcome (rails : Rails) (parts : List Part) (words : List ℕ) (eve
   pub run : IsRunOf rails events
   pub words_are : words ≡ (end_state rails events).words
   pub minds_are : AreMinds (end_state rails events).minds (minds_of parts)
-  pub few : AreFew (most_attempts rails) (records_of parts) events
+  pub few : AreFew (attempts_in rails events) (records_of parts) events
+  pub line : IsLine (rails_line rails)
+  pub tries : AreFewTries (rails_tries rails)
 
 pub outcome : Laws → (rails : Rails) (parts : List Part) (words : List ℕ) (log : List Event) (events : List Event) → AreParts rails parts
     → IsLastRun rails parts words log → IsMergeOf (records_of parts) events → IsOutcome rails parts words events
@@ -43,9 +46,12 @@ outcome laws rails parts words log events are last merge =
     let (run, same) = laws.merged tables tries log (records_of parts) events last.line last.tries fits last.replay.run records merge in
     let size : length (records_of parts) ≡ node_count (layout_of tables) =
     length-map parts (λ (part : Part). part.«record») ∙ (are.all_here ∙ are.all_handed) in
+    let alike : attempts_of tables tries log ≡ attempts_of tables tries (reverse events) = rw same refl in
     record {
       run = run;
       words_are = last.replay.words_are ∙ ap (λ (c : CoreState). c.words) (sym same);
       minds_are = λ n mind at. minds_are rails parts words log are last n mind at ∙ ap (λ (c : CoreState). c.minds n) (sym same);
-      few = all_few laws.counts tables tries log (records_of parts) events last.line last.tries last.replay.run records size run;
+      few = all_few laws.counts tables tries log (records_of parts) events last.line last.tries last.replay.run records size run alike;
+      line = last.line;
+      tries = last.tries;
     }

@@ -8,6 +8,8 @@ use Rattle.rl_record.specs.Records.{Record}
 use Rattle.rl_steps.specs.declared.mind.Mind.{Mind}
 use Rattle.rl_steps.specs.State.{CoreState}
 use Rattle.rl_steps.specs.Run.{IsRun, state}
+use Rattle.rl_safety.specs.Counts.{attempts_of}
+use Rattle.rl_safety.specs.Promises.{KeepsPromises}
 use Rattle.rl_rule.specs.declared.rails.Rails.{Rails}
 use Rattle.rl_rule.specs.Seats.{rails_line, rails_tries}
 use Rattle.rl_nodes.specs.declared.parts.Part.{Part}
@@ -31,7 +33,14 @@ end_state rails events = state (rails_line rails) (rails_tries rails) (reverse e
 abbrev pub AreMinds : (ℕ → Mind) → List Mind → Type 0
 AreMinds mind_at minds = (n : ℕ) (mind : Mind) → slice_get minds n ≡ Some mind → mind ≡ mind_at n
 
--- the most attempts that all trains can post
+-- the run keeps what every run promises
+abbrev pub RunKeepsPromises : Rails → List Event → Type 0
+RunKeepsPromises rails events = KeepsPromises (rails_line rails) (rails_tries rails) (reverse events)
+
+-- the attempts that the trains have opened in this run, and the most that they can open
+abbrev pub attempts_in : Rails → List Event → ℕ
+attempts_in rails events = attempts_of (rails_line rails) (rails_tries rails) (reverse events)
+
 abbrev pub most_attempts : Rails → ℕ
 most_attempts rails = length (rails_line rails).trains * rails_tries rails
 

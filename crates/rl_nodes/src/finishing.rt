@@ -1,17 +1,18 @@
-ghost use Rattle.std.specs.Prelude.{◌≡◌, ◌∷◌, ◌++◌, reverse, map, IfOk, OnOk, All};
+ghost use Rattle.std.specs.Prelude.{◌≡◌, ◌≤◌, ◌∷◌, ◌++◌, reverse, map, IfOk, OnOk, All};
 ghost use Rattle.rl_record.specs.Records.{IsMergeOf};
 ghost use Rattle.rl_rule.specs.Seats.{rails_id, seat_id, walk_of, handed, taken, IsSameRails};
 ghost use Rattle.rl_rule.specs.Views.{kept_of};
 ghost use Rattle.rl_nodes.specs.Parts.{AreParts};
 ghost use Rattle.rl_nodes.specs.Left.{with_part};
-ghost use Rattle.rl_nodes.specs.Finished.{records_of, minds_of, IsRunOf, end_state, AreMinds, most_attempts, AreFew};
+ghost use Rattle.rl_nodes.specs.Finished.{records_of, minds_of, IsRunOf, end_state, AreMinds, attempts_in, most_attempts};
+ghost use Rattle.rl_nodes.specs.Finished.{AreFew, RunKeepsPromises};
 
 use crate::parts::{Part, Parts};
 use rl_base::{NoMemory, Sequence};
 use rl_merge::merged_records;
 use rl_record::{Events, Records, merge};
 use rl_rule::{Rails, Words};
-use rl_safety::counted_events;
+use rl_safety::{counted_events, promises_of_runs};
 use rl_steps::Mind;
 use std::alloc::Global;
 
@@ -79,13 +80,17 @@ pub fn finish(alloc: Global, rails: Rails, parts: Parts) -> Result<Finished, NoM
     ensures run { IfOk result (λ done. IsRunOf rails done.events) }
     ensures words { IfOk result (λ done. done.words ≡ (end_state rails done.events).words) }
     ensures last_minds { IfOk result (λ done. AreMinds (end_state rails done.events).minds done.minds) }
-    ensures few { IfOk result (λ done. AreFew (most_attempts rails) done.records done.events) }
+    // Events and moves are few for each attempt that was opened in this run, and these are few for trains and tries.
+    ensures few { IfOk result (λ done. AreFew (attempts_in rails done.events) done.records done.events) }
+    ensures attempts { IfOk result (λ done. attempts_in rails done.events ≤ most_attempts rails) }
+    ensures promised { IfOk result (λ done. RunKeepsPromises rails done.events) }
 {
     let mut rails = rails;
     let Left { records, minds } = take_all_in(alloc, &mut rails, parts)?;
     let words = rails.close();
     merged_records();
     counted_events();
+    promises_of_runs();
     let events = merge(alloc, &records)?;
     Ok(Finished {
         records,

@@ -41,7 +41,7 @@ pub record IsSafeOn (net : NetworkPlan) (tables : Tables) (tries : ℕ) (events 
       → Rests net (world_of_core net tables (state tables tries events)) t
 
 -- minds and words agree, and every word can be read; the Refuse and Bar moves of each train are the refusals that were
--- said to it; events, those of each node, and moves are at most so many for each attempt that was posted, and each train
+-- said to it; events, those of each node, and moves are at most so many for each attempt that was opened, and each train
 -- posts no more than its tries; where every train rests, each holds its own segment alone, no box is locked and no letter
 -- is on its way; and the moves are safe on every network that has these tables
 pub record KeepsPromises (tables : Tables) (tries : ℕ) (events : List Event) : Type 0 where

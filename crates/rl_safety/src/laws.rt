@@ -23,6 +23,7 @@ ghost use Rattle.rl_safety.specs.Counts.{events_by, attempts_of};
 ghost use Rattle.rl_safety.specs.Moves.{moves_of};
 ghost use Rattle.rl_safety.specs.Reading.{read};
 ghost use Rattle.rl_safety.specs.Reports.{report_of};
+ghost use Rattle.rl_safety.specs.Rests.{AllTrainsRest};
 ghost use Rattle.rl_safety.specs.Stepped.{IsStepped};
 ghost use Rattle.rl_safety.specs.World.{world_of_core};
 ghost use Rattle.rl_tables.specs.declared.table.Tables.{Tables};
@@ -142,8 +143,7 @@ pub fn right_reports()
         → IsNetwork net → AreTablesOf net tables → 1 ≤ tries → AreFewTries tries → IsRun tables tries events
         → IsReportOf net (report_of tables tries events) }
     ensures ended { (tables : Tables) (tries : ℕ) (events : List Event) (t : ℕ) (o : Outcome)
-        → AllAtRest (line_of tables) (read tables tries (state tables tries events))
-        → slice_get (report_of tables tries events).outcomes t ≡ Some o
+        → AllTrainsRest tables (state tables tries events) → slice_get (report_of tables tries events).outcomes t ≡ Some o
         → (o.fate ≡ Arrived) ⊎ (o.fate ≡ Spent) }
 {
     safe_runs();

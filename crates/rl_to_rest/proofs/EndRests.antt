@@ -4,8 +4,6 @@ use Rattle.rl_base.specs.declared.layout.NodeKind.{NodeKind}
 use Rattle.rl_base.specs.declared.layout.NodeKind.TheVariants as nodes
 use Rattle.rl_core.specs.Reports.{AreMindsAfter}
 use Rattle.rl_nodes.specs.Nodes.{is_at_rest}
-use Rattle.rl_protocol.specs.Rest.{AllAtRest}
-use Rattle.rl_protocol.specs.TableLine.{line_of}
 use Rattle.rl_protocol.proofs.Moved.{item_there}
 use Rattle.rl_record.specs.declared.event.Event.{Event}
 use Rattle.rl_steps.specs.declared.mind.Mind.{Mind}
@@ -15,7 +13,7 @@ use Rattle.rl_steps.specs.Run.{state}
 use Rattle.rl_steps.specs.Sound.{IsMindOf}
 use Rattle.rl_steps.specs.State.{CoreState}
 use Rattle.rl_steps.proofs.Numbering.{node_at-number}
-use Rattle.rl_safety.specs.Reading.{read}
+use Rattle.rl_safety.specs.Rests.{AllTrainsRest}
 use Rattle.rl_tables.specs.declared.table.Tables.{Tables}
 use Rattle.rl_tables.specs.declared.table.TrainTable.{TrainTable}
 use Rattle.rl_tables.specs.Starts.{layout_of}
@@ -37,8 +35,8 @@ MindsRest tables minds = (n : ℕ) (mind : Mind) → slice_get minds n ≡ Some 
 pub all_rest_after : (tables : Tables) (tries : ℕ) (events : List Event) (minds : List Mind) → AreMindsAfter tables tries events minds
     → length tables.trains ≤ length minds
     → ((n : ℕ) (node : NodeKind) → node_at (layout_of tables) n ≡ Some node → IsMindOf tables node ((state tables tries events).minds n))
-    → MindsRest tables minds → AllAtRest (line_of tables) (read tables tries (state tables tries events))
-all_rest_after tables tries events minds are enough formed rest = all_rest tables tries (state tables tries events) each
+    → MindsRest tables minds → AllTrainsRest tables (state tables tries events)
+all_rest_after tables tries events minds are enough formed rest = all_rest tables (state tables tries events) each
   where
     each : (t : ℕ) → t < length tables.trains → HasRestingTrain tables (state tables tries events) t
     each t here =

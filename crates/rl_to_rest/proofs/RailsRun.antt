@@ -9,7 +9,7 @@ use Rattle.rl_base.specs.Layout.{node_count}
 use Rattle.rl_core.specs.Reports.{AreMindsAfter}
 use Rattle.rl_model.specs.declared.report.Report.{Report}
 use Rattle.rl_nodes.specs.declared.parts.Part.{Part}
-use Rattle.rl_nodes.specs.Finished.{minds_of, IsRunOf, end_state, AreMinds, most_attempts, AreFew}
+use Rattle.rl_nodes.specs.Finished.{minds_of, IsRunOf, end_state, AreMinds, attempts_in, AreFew}
 use Rattle.rl_nodes.specs.Nodes.{is_at_rest}
 use Rattle.rl_record.specs.declared.event.Event.{Event}
 use Rattle.rl_record.specs.Records.{Record, IsMergeOf}
@@ -57,7 +57,7 @@ pub record WasRun (rails : Rails) (parts : List Part) (records : List Record) (e
   pub merge : IsMergeOf records events
   pub run : IsRunOf rails events
   pub last : AreMinds (end_state rails events).minds minds
-  pub few : AreFew (most_attempts rails) records events
+  pub few : AreFew (attempts_in rails events) records events
 
 pub to_rest_on : {E : Type 0} (rails : Rails) (parts : List Part) (records : List Record) (events : List Event) (minds : List Mind) (r : Result Report E)
     → AreSound → IsLine (rails_line rails) → AreFewTries (rails_tries rails) → WasRun rails parts records events minds

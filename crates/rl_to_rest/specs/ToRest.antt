@@ -7,10 +7,8 @@ use Rattle.rl_record.specs.declared.event.Event.{Event}
 use Rattle.rl_record.specs.Merge.{Falls}
 use Rattle.rl_tables.specs.declared.table.Tables.{Tables}
 use Rattle.rl_steps.specs.Run.{IsRun, state}
-use Rattle.rl_protocol.specs.Rest.{AllAtRest}
-use Rattle.rl_protocol.specs.TableLine.{line_of}
-use Rattle.rl_safety.specs.Reading.{read}
 use Rattle.rl_safety.specs.Reports.{report_of}
+use Rattle.rl_safety.specs.Rests.{AllTrainsRest}
 
 -- The report is that of a run of events from the start: each is the step of its node where it stands, they stand in the
 -- order of their stamps, and of their nodes where stamps are equal, and after the last of them every train rests
@@ -18,7 +16,7 @@ pub record IsReportToRest (tables : Tables) (tries : ℕ) (report : Report) : Ty
   pub events : List Event
   pub run : IsRun tables tries events
   pub order : Falls events
-  pub rest : AllAtRest (line_of tables) (read tables tries (state tables tries events))
+  pub rest : AllTrainsRest tables (state tables tries events)
   pub report_is : report ≡ report_of tables tries events
 
 -- every train has arrived, or has spent its attempts

@@ -1,8 +1,8 @@
-use Rattle.std.proofs.Common.{List, sym, subst}
+use Rattle.std.proofs.Common.{List, reverse, sym, subst}
 use Rattle.rl_record.specs.Records.{Record, AreHistories, IsMergeOf}
 use Rattle.rl_steps.specs.declared.mind.Mind.{Mind}
 use Rattle.rl_rule.specs.Seats.{rails_line, rails_tries}
-use Rattle.rl_nodes.specs.Finished.{records_of, end_state, AreMinds, most_attempts, AreFew}
+use Rattle.rl_nodes.specs.Finished.{records_of, end_state, AreMinds, attempts_in, AreFew}
 use Rattle.rl_nodes.proofs.LastRun.{last_run, records_are}
 use Rattle.rl_nodes.proofs.Outcomes.{Laws, outcome}
 use Rattle.rl_nodes.proofs.finishing.finish.Goals as goal
@@ -42,5 +42,7 @@ returns c =
       run = out.run;
       words = out.words_are;
       last_minds = subst (λ (l : List Mind). AreMinds (end_state rails events).minds l) (sym told.minds) out.minds_are;
-      few = subst (λ (l : List Record). AreFew (most_attempts rails) l events) (sym told.records) out.few;
+      few = subst (λ (l : List Record). AreFew (attempts_in rails events) l events) (sym told.records) out.few;
+      attempts = counted.opened (rails_line rails) (rails_tries rails) (reverse events);
+      promised = c.promises_of_runs.ensures (rails_line rails) (rails_tries rails) (reverse events) out.line out.tries out.run;
     }

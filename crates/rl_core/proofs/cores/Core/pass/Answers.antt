@@ -1,4 +1,4 @@
-use Rattle.std.proofs.Common.{slice_index_or, refl}
+use Rattle.std.proofs.Common.{slice_index_or}
 use Rattle.rl_core.proofs.Reached.{reached_advanced}
 use Rattle.rl_core.proofs.Turned.{next_told}
 use Rattle.rl_core.proofs.cores.Core.pass.Goals as goal

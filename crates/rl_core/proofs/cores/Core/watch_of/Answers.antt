@@ -1,7 +1,7 @@
-use Rattle.std.proofs.Common.{◌≡◌, false, true, ◌∙◌, ap, sym}
+use Rattle.std.proofs.Common.{◌≡◌, false, ◌∙◌, ap, sym}
 use Rattle.rl_steps.specs.Step.{is_ready}
 use Rattle.rl_core.specs.Cores.{state_of}
-use Rattle.rl_core.proofs.Watching.{watch_seen, watch_box}
+use Rattle.rl_core.proofs.Watching.{watch_seen}
 use Rattle.rl_core.proofs.cores.Core.watch_of.Goals as goal
 
 pub returns-then-not-is_ready : goal.returns-then-not-is_ready
