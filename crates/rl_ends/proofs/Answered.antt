@@ -7,6 +7,7 @@ use Rattle.rl_base.specs.declared.place.Place.{Place}
 use Rattle.rl_base.specs.declared.place.Place.TheVariants as place
 use Rattle.rl_base.specs.Place.{IsNoLater}
 use Rattle.rl_base.proofs.PlaceOrder.{IsNoLater-antisymmetric}
+use Rattle.rl_drafts.specs.Search.{Refusal}
 use Rattle.rl_ends.specs.EndsDrafts.{draft_of}
 use Rattle.rl_ends.specs.EndRules.{end_breaks, breaks, IsUnbroken, IsFirstOf}
 use Rattle.rl_ends.specs.EndRefusals.{refusal_number, refusal_place, IsRefusal, IsRight, UnlessMemory, IsKept, IsFirstBreak, RefusesBy}
@@ -51,7 +52,7 @@ pub unbroken : (d : EndsDraft) → AreKeptBelow d 26 → IsUnbroken d
 unbroken d below m = ⊎_elim (λ (a : m < 26). below m a) (λ (a : 26 ≤ m). else_kept d m (inr (omega arith))) (cases_lt m 26)
 
 -- the first place of a rule is the first refusal where the rules before it are kept
-first_by : (d : EndsDraft) (n : ℕ) (p : Place) → AreKeptBelow d n → IsFirstBreak d n p → IsFirstOf (breaks d) n p
+pub first_by : (d : EndsDraft) (n : ℕ) (p : Place) → AreKeptBelow d n → IsFirstBreak d n p → IsFirstOf (breaks d) n p
 first_by d n p below h = record { broken = h.broken; least = λ m q e. at m q e }
   where
     at : (m : ℕ) (q : Place) → breaks d m q ≡ true → (n < m) ⊎ ((n ≡ m) × IsNoLater p q)
@@ -79,16 +80,11 @@ pub only_memory : (d : EndsDraft) (answer : Result Draft EndRefusal) → IfErr a
 only_memory d (Ok draft) refused fine = tt
 only_memory d (Err e) refused fine = only_for_memory d e fine refused
 
--- a number and a place
-record Numbered : Type 0 where
-  number : ℕ
-  place : Place
-
-abbrev numbered : EndRefusal → Numbered
+abbrev numbered : EndRefusal → Refusal
 numbered e = record { number = refusal_number e; place = refusal_place e }
 
 -- the refusal that has them
-refusal_with : Numbered → EndRefusal
+refusal_with : Refusal → EndRefusal
 refusal_with r =
     cond (eqb r.number 21) (EndText r.place)
     (cond (eqb r.number 22) (NoBox r.place)
@@ -105,7 +101,7 @@ refusal_with-own (ArmFree p) = refl
 refusal_with-own NoMemory = refl
 
 -- two first refusals are one
-same_numbered : (d : EndsDraft) (r u : Numbered) → IsFirstOf (breaks d) r.number r.place → IsFirstOf (breaks d) u.number u.place → r ≡ u
+pub same_numbered : (d : EndsDraft) (r u : Refusal) → IsFirstOf (breaks d) r.number r.place → IsFirstOf (breaks d) u.number u.place → r ≡ u
 same_numbered d r u a b = both (a.least u.number u.place b.broken) (b.least r.number r.place a.broken)
   where
     both : (r.number < u.number) ⊎ ((r.number ≡ u.number) × IsNoLater r.place u.place)
@@ -114,7 +110,7 @@ same_numbered d r u a b = both (a.least u.number u.place b.broken) (b.least r.nu
     both (inl x) (inr y) = absurd (omega (arith, y.0))
     both (inr x) (inl y) = absurd (omega (arith, x.0))
     both (inr x) (inr y) =
-        ap₂ (λ (n : ℕ) (p : Place). let w : Numbered = record { number = n; place = p } in w) x.0 (IsNoLater-antisymmetric r.place u.place x.1 y.1)
+        ap₂ (λ (n : ℕ) (p : Place). let w : Refusal = record { number = n; place = p } in w) x.0 (IsNoLater-antisymmetric r.place u.place x.1 y.1)
 
 same_refusal : (d : EndsDraft) (e q : EndRefusal) → IsFirstOf (breaks d) (refusal_number e) (refusal_place e)
     → IsFirstOf (breaks d) (refusal_number q) (refusal_place q) → e ≡ q

@@ -9,3 +9,5 @@ pub mod Found
 pub mod PartedEnds
 pub mod PartedLaws
 pub mod SegmentEnds
+pub mod Search
+pub mod JoinedNames

@@ -5,3 +5,5 @@ pub mod EndRefusals
 pub mod Tables
 pub mod Parted
 pub mod SegmentEnds
+pub mod Search
+pub mod EndsNames

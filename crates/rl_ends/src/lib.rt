@@ -21,6 +21,6 @@ mod segment_ends;
 pub use end_text::EndText;
 pub use ends_draft::{EndsBox, EndsBoxes, EndsDraft, EndsSegment, EndsSegments};
 pub use joining::joined;
-pub use laws::end_names;
+pub use laws::{end_names, first_refusals, joined_names};
 pub use parting::parted;
 pub use refusal::EndRefusal;
