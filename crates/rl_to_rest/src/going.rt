@@ -58,7 +58,7 @@ fn all_rest(nodes: &[RunNode<'_>]) -> bool
 }
 
 /// Gives the nodes round after round, of so many turns each or of as many as are granted, until every train rests. It may
-/// go on for ever, but not for want of turns or of places in a record.
+/// go on for ever.
 pub fn go_to_rest<R: Threads + Wait + Sync, G: Gate>(
     rt: &R,
     nodes: &mut Nodes<'_>,
