@@ -197,14 +197,15 @@ fn audits_a_run(rt: HostRuntime) -> Result<(), Fail> {
     Ok(())
 }
 
-/// The report of a run of the terminus by two workers, with so many turns a round.
+/// The report of a run of the terminus by two workers, with so many turns a round. With few tries it is short: two of the
+/// trams are in each other's way.
 fn terminus_run<R: Threads + Wait + Sync>(
     rt: &R,
     alloc: Global,
     round: u32,
 ) -> Result<Vec<u8>, Fail> {
     let files = [("NET", TERMINUS.as_bytes())];
-    let line = format!(in alloc; "run NET --workers 2 --round {round}")?;
+    let line = format!(in alloc; "run NET --workers 2 --tries 5 --round {round}")?;
     let (status, report) = answer_of_all(rt, alloc, files.as_slice(), line.as_str(), &OpenGate)?;
     if status != Status::Done {
         return Err(Fail::from("the run is not done"));
