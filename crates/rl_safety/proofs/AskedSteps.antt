@@ -86,6 +86,6 @@ module _ (laws : WorkLaws) (tables : Tables) (tries : ℕ) (c : CoreState) (line
         step =
             ap (λ k. node_step tables n k (word_number (layout_of tables) (kinds.Mail (train t))) (payload_of tables c (kinds.Mail (train t)))) mind.1
             ∙ box_step_at tables n (word_number (layout_of tables) (kinds.Mail (train t))) (payload_of tables c (kinds.Mail (train t))) l.to found.0 mind.0
-                (kinds.Mail (train t)) at found.1 word
+            (kinds.Mail (train t)) at found.1 word
             ∙ ap (as_mind Box) made;
       }

@@ -5,7 +5,9 @@ ghost use Rattle.rl_tables.specs.Tables.{IsListOf, IsBoxTable, IsOtherEnd, Looks
 ghost use Rattle.rl_tables.specs.Tables.{AreTablesOf};
 
 use crate::line::Line;
-use crate::table::{BoxTable, BoxTables, NextRow, StepRow, StepRows, Tables, TrainTable, TrainTables};
+use crate::table::{
+    BoxTable, BoxTables, NextRow, StepRow, StepRows, Tables, TrainTable, TrainTables,
+};
 use rl_base::{Arm, BoxId, NoMemory, SegId, TrainId};
 use rl_net::Network;
 use std::alloc::Global;

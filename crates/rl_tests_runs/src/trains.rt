@@ -236,7 +236,11 @@ const DROPS: [(u32, Option<u32>); 5] = [
 ];
 
 /// The mind after the payloads, and the place of the first that isn't answered as it should be.
-fn follow(table: &TrainTable, start: TrainMind, steps: &[(u32, Option<u32>)]) -> (TrainMind, Option<usize>)
+fn follow(
+    table: &TrainTable,
+    start: TrainMind,
+    steps: &[(u32, Option<u32>)],
+) -> (TrainMind, Option<usize>)
     requires table { IsUsable table.now }
     requires mind { IsTrainMind table.now start.now }
     ensures { IsTrainMind table.now result.0 }

@@ -12,7 +12,9 @@ ghost use Rattle.rl_train.specs.Jobs.{after_no};
 ghost use Rattle.rl_train.specs.Mind.{row_of, looks_on, at_rest, IsTrainMind, CanBeNamed, IsUsable};
 ghost use Rattle.rl_train.specs.Steps.{posted, heard, denied, on_mail, on_run, on_sense, train_step, train_target};
 
-use crate::jobs::{after_no, after_yes, asks, ends_step, is_near, is_pass, letter, looks_ahead, reopens};
+use crate::jobs::{
+    after_no, after_yes, asks, ends_step, is_near, is_pass, letter, looks_ahead, reopens,
+};
 use crate::laws::train_glances;
 use crate::mind::TrainMind;
 use rl_base::{Job, Layout, TrainId, WordKind, WordNo};
