@@ -242,7 +242,7 @@ fn follow(
     steps: &[(u32, Option<u32>)],
 ) -> (TrainMind, Option<usize>)
     requires table { IsUsable table.now }
-    requires mind { IsTrainMind table.now start.now }
+    requires mind { IsTrainMind table.now start }
     ensures { IsTrainMind table.now result.0 }
 {
     let mut mind = start;
