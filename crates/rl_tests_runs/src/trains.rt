@@ -1,9 +1,9 @@
 //! The steps of a train, payload by payload.
 ghost use Rattle.std.specs.Prelude.{◌≡◌, ◌∷◌, [], IfOk};
-ghost use Rattle.rl_train.specs.Mind.{IsTrainMind, IsUsable};
+ghost use Rattle.rl_train.specs.Mind.{IsUsable};
 
 use rl_base::{Arm, BoxId, Job, NoMemory, SegId, TrainId};
-use rl_tables::{NextRow, StepRow, StepRows, TrainTable};
+use rl_tables::{StepRow, StepRows, TrainTable};
 use rl_train::TrainMind;
 use std::alloc::Global;
 use std::test::Fail;
@@ -22,49 +22,11 @@ const ROW: StepRow = StepRow {
     next: None,
 };
 
-// The same step where another one follows it, from segment 1 through box 2 to segment 2, whose other end is at box 3.
-const FIRST: StepRow = StepRow {
-    next: Some(NextRow {
-        s3: SegId(2),
-        b2: BoxId(2),
-        b2_arm: Arm(1),
-        c2: BoxId(3),
-        c2_arm: Arm(0),
-    }),
-    ..ROW
-};
-
-const SECOND: StepRow = StepRow {
-    s: SegId(1),
-    s2: SegId(2),
-    b: BoxId(2),
-    x: Arm(0),
-    y: Arm(1),
-    c: BoxId(3),
-    c_arm: Arm(0),
-    a: BoxId(1),
-    a_arm: Arm(1),
-    next: None,
-};
-
 fn one_step(alloc: Global) -> Result<TrainTable, NoMemory>
     ensures { IfOk result IsUsable }
 {
     let mut rows = StepRows::new(alloc);
     rows.push(ROW)?;
-    Ok(TrainTable {
-        number: TrainId(0),
-        first: SegId(0),
-        rows,
-    })
-}
-
-fn two_steps(alloc: Global) -> Result<TrainTable, NoMemory>
-    ensures { IfOk result IsUsable }
-{
-    let mut rows = StepRows::new(alloc);
-    rows.push(FIRST)?;
-    rows.push(SECOND)?;
     Ok(TrainTable {
         number: TrainId(0),
         first: SegId(0),
@@ -138,177 +100,6 @@ const STEPS: [(u32, Option<u32>); 53] = [
     (19, None),
     (1, None),
 ];
-
-/// Two segments ahead, with three refusals, and the first step made.
-const FIRST_STEP: [(u32, Option<u32>); 49] = [
-    // Refused the near end of the segment after the next one: it drops the next one.
-    (0, Some(4105)),
-    (4107, Some(0)),
-    (0, Some(17)),
-    (19, Some(0)),
-    (0, Some(4113)),
-    (4105, None),
-    (69652, Some(0)),
-    (0, Some(1041)),
-    (1043, Some(0)),
-    (0, Some(5129)),
-    (5131, Some(0)),
-    // Refused its far end: it drops the near one, and the next segment.
-    (0, Some(4105)),
-    (4107, Some(0)),
-    (0, Some(17)),
-    (19, Some(0)),
-    (0, Some(4113)),
-    (4115, Some(0)),
-    (0, Some(25)),
-    (65564, Some(0)),
-    (0, Some(5137)),
-    (5139, Some(0)),
-    (0, Some(1041)),
-    (1043, Some(0)),
-    (0, Some(5129)),
-    (5131, Some(0)),
-    // Refused the lock: it drops both segments, the farther one first.
-    (0, Some(4105)),
-    (4107, Some(0)),
-    (0, Some(17)),
-    (19, Some(0)),
-    (0, Some(4113)),
-    (4115, Some(0)),
-    (0, Some(25)),
-    (27, Some(0)),
-    (0, Some(18441)),
-    (83980, Some(0)),
-    (0, Some(1049)),
-    (1051, Some(0)),
-    (0, Some(5137)),
-    (5139, Some(0)),
-    (0, Some(1041)),
-    (1043, Some(0)),
-    (0, Some(5129)),
-    (5131, Some(0)),
-    // It reserves both ends of both segments, and only then asks for the lock.
-    (0, Some(4105)),
-    (4107, Some(0)),
-    (0, Some(17)),
-    (19, Some(0)),
-    (0, Some(4113)),
-    (4115, Some(0)),
-];
-
-const PASSES: [(u32, Option<u32>); 12] = [
-    (0, Some(25)),
-    (27, Some(0)),
-    (0, Some(18441)),
-    (18443, Some(0)),
-    (0, Some(1)),
-    (2, Some(4)),
-    (0, Some(19465)),
-    (19467, Some(0)),
-    (0, Some(1033)),
-    (1035, Some(0)),
-    (0, Some(1025)),
-    (1027, Some(0)),
-];
-
-/// With an attempt left it goes on with a new one, and asks for the lock of the second box at once.
-const GOES_ON: [(u32, Option<u32>); 11] = [
-    (0, Some(18449)),
-    (18451, Some(0)),
-    (4, Some(5)),
-    (6, Some(8)),
-    (0, Some(19473)),
-    (19475, Some(0)),
-    (0, Some(1041)),
-    (1043, Some(0)),
-    (0, Some(5129)),
-    (5131, Some(0)),
-    (0, None),
-];
-
-/// With none left it drops the segment that it holds besides its own, at both ends.
-const DROPS: [(u32, Option<u32>); 5] = [
-    (0, Some(1049)),
-    (1051, Some(0)),
-    (0, Some(5137)),
-    (5139, Some(0)),
-    (0, None),
-];
-
-/// The mind after the payloads, and the place of the first that isn't answered as it should be.
-fn follow(
-    table: &TrainTable,
-    start: TrainMind,
-    steps: &[(u32, Option<u32>)],
-) -> (TrainMind, Option<usize>)
-    requires table { IsUsable table.now }
-    requires mind { IsTrainMind table.now start }
-    ensures { IsTrainMind table.now result.0 }
-{
-    let mut mind = start;
-    let mut wrong = None;
-    for i in 0..steps.len() {
-        let (payload, want) = steps[i];
-        let found = mind.act(table, payload);
-        if wrong.is_none() && found.map(|f| f.0) != want {
-            wrong = Some(i);
-        }
-        if let Some((_, after)) = found {
-            mind = after;
-        }
-    }
-    (mind, wrong)
-}
-
-/// A mind at rest at the step, where three attempts were refused and no other is left.
-fn at_rest(step: u32) -> TrainMind {
-    TrainMind {
-        step,
-        job: Job::Near,
-        waits: false,
-        left: 0,
-        refused: 3,
-    }
-}
-
-#[test]
-fn looks_ahead(rt: HostRuntime) -> Result<(), Fail> {
-    let table = two_steps(rt.alloc())?;
-    let (asked, wrong) = follow(&table, TrainMind::start(5), &FIRST_STEP);
-    assert_eq!(rt; wrong, None);
-    let (passed, wrong) = follow(&table, asked, &PASSES);
-    assert_eq!(rt; wrong, None);
-    // The next attempt is open already.
-    assert_eq!(rt;
-        passed,
-        TrainMind {
-            step: 1,
-            job: Job::Lock,
-            waits: false,
-            left: 0,
-            refused: 3,
-        }
-    );
-    let (arrived, wrong) = follow(&table, passed, &GOES_ON);
-    assert_eq!(rt; wrong, None);
-    assert_eq!(rt; arrived, at_rest(2));
-    Ok(())
-}
-
-#[test]
-fn drops_what_it_holds_ahead(rt: HostRuntime) -> Result<(), Fail> {
-    let table = two_steps(rt.alloc())?;
-    let (asked, wrong) = follow(&table, TrainMind::start(4), &FIRST_STEP);
-    assert_eq!(rt; wrong, None);
-    let (passed, wrong) = follow(&table, asked, &PASSES);
-    assert_eq!(rt; wrong, None);
-    assert_eq!(rt; passed.job, Job::DropFar);
-    let (spent, wrong) = follow(&table, passed, &DROPS);
-    assert_eq!(rt; wrong, None);
-    assert!(rt; spent.at_rest(&table));
-    assert_eq!(rt; spent, at_rest(1));
-    Ok(())
-}
 
 #[test]
 fn makes_a_step(rt: HostRuntime) -> Result<(), Fail> {
